@@ -1,0 +1,4 @@
+pub mod Absolute
+pub mod PlainLaws
+pub mod Tiers
+pub mod TwoTierLaws

@@ -1,0 +1,5 @@
+pub mod Limits
+pub mod Stops
+pub mod Answers
+pub mod Bounding
+pub mod Nets
