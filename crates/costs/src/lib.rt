@@ -148,7 +148,10 @@ pub impl CostKind for TwoTier as TwoTierKind {
     ghost kind = { two-tier-kind };
 
     fn zero() -> TwoTier {
-        TwoTier { first: 0, second: 0 }
+        TwoTier {
+            first: 0,
+            second: 0,
+        }
     }
 
     fn plus(self, other: TwoTier) -> Option<TwoTier> {

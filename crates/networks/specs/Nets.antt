@@ -1,11 +1,12 @@
 -- What a network means: its nodes, its arcs beneath every lock-out, and its lock-outs; and what each call
 -- answers and leaves.
+use mathlib.Core.Path.{_≡_}
 use mathlib.Core.Bool.{Bool, true, false, cond, _||_}
 use mathlib.Core.List.{List, [], _∷_}
-use Prim.Native.Nat.{ℕ, suc, _-_}
+use Prim.Native.Nat.{ℕ, suc, _-_, _<_}
 use lib.IntN.{ℤ, pos}
 use lib.Dec.{leb, ltb, eqb}
-use lib.ListN.{length, set}
+use lib.ListN.{length, set, getD}
 use Rattle.std.specs.Finite.{nth}
 use Rattle.std.specs.Options.{mapped}
 use Rattle.std.specs.declared.option.Option.{Option}
@@ -28,6 +29,10 @@ pub record Net (C : Type 0) : Type 0 where
 -- the a-th of a list that counts from 1
 abbrev pub numbered : {X : Type 0} → List X → ℕ → Option X
 numbered xs a = cond (eqb a 0) None (nth xs (a - 1))
+
+-- x stands at place i, counted from 0
+abbrev pub Is-at : {X : Type 0} → List X → ℕ → X → Type 0
+Is-at xs i x = (i < length xs) × (x ≡ getD xs i x)
 
 -- the list with its a-th replaced, where there is a new one
 abbrev pub replaced : {X : Type 0} → List X → ℕ → Option X → List X

@@ -1,0 +1,6 @@
+pub mod Group
+pub mod Sizes
+pub mod Stopping
+pub mod Balancing
+pub mod Totalling
+pub mod Fitted
