@@ -4,3 +4,14 @@ pub mod Stopping
 pub mod Balancing
 pub mod Totalling
 pub mod Fitted
+pub mod ArcSums
+pub mod Numbers
+pub mod Least
+pub mod KilterSums
+pub mod Cuts
+pub mod Imbalances
+pub mod Chains
+pub mod Rooms
+pub mod Prices
+pub mod Wants
+pub mod Settling

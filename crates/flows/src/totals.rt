@@ -9,7 +9,7 @@ ghost use Rattle.networks.specs.Nets.{shown};
 ghost use Rattle.flows.specs.Fits.{Fitting, Small};
 ghost use Rattle.flows.specs.Flows.{total as total-of};
 use costs::CostKind;
-use crate::prices::sum;
+use crate::pricing::sum;
 use networks::Network;
 
 // What an arc's flow costs, where neither is beyond the limits.

@@ -1,6 +1,6 @@
 use borrow.Author.Needs.{needs}
 use Rattle.flows.proofs.Sizes.{size-neg}
-use Rattle.flows.proofs.prices.opposite.Needs as need
+use Rattle.flows.proofs.pricing.opposite.Needs as need
 
 pub returns-in-Some : need.returns-in-Some
 returns-in-Some g c = let h = size-neg (g .C·CostKind .kind) (g .C·CostKind·met .lawful) (c .args .a) in search needs

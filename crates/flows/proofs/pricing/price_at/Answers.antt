@@ -4,7 +4,7 @@ use lib.ListN.{length}
 use Rattle.std.proofs.shelf.Lists.{getD-read}
 use Rattle.flows.specs.Fits.{price-limit}
 use Rattle.flows.proofs.Sizes.{read-size}
-use Rattle.flows.proofs.prices.price_at.Needs as need
+use Rattle.flows.proofs.pricing.price_at.Needs as need
 
 pub returns : need.returns
 returns g c =
