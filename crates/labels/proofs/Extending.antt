@@ -17,13 +17,11 @@ use Rattle.flows.specs.declared.steps.Step.{Step}
 use Rattle.labels.specs.declared.labelling.Entry.{Entry}
 use Rattle.labels.specs.declared.labelling.Labels.{Labels}
 use Rattle.flows.specs.Laps.{near, far}
+use Rattle.flows.proofs.ArcSums.{same-at}
 use Rattle.flows.specs.Fits.{Fit}
 use Rattle.labels.specs.Moves.{may}
 use Rattle.labels.specs.Good.{node-at, place-of, Open, Linked, Whole, Good, Grown, outward-at, pushed}
 use Rattle.labels.proofs.More.{room, place-new, whole-more, grown-more, linked-more}
-
-pub same-at : {X : Type 0} (xs : List X) (i : ℕ) (a b : X) → Is-at xs i a → Is-at xs i b → a ≡ b
-same-at xs i a b (h, p) (k, q) = p ∙ getD-default xs i a b h ∙ sym q
 
 -- the way outward sets out from the node, and leads to one that is not labelled
 pub outward-is : {C : Type 0} (a : Arc C) (n : ℕ) (ls : Labels) (along : Bool) → Some along ≡ outward-at a n ls → (near a along ≡ n) × (place-of ls (far a along) ≡ 0)

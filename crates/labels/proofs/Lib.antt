@@ -1,2 +1,4 @@
 pub mod More
 pub mod Extending
+pub mod Rooming
+pub mod Trails

@@ -28,6 +28,9 @@ outward-requires g c κs =
     let fit = c .pre .fitting i a is in
     record { from = (omega (arith, fit .ends), omega (arith, fit .ends, c .pre .few)); to = (omega (arith, fit .ends), omega (arith, fit .ends, c .pre .few)) }
 
+pub returns-in-rest-outward : need.returns-in-rest-outward
+returns-in-rest-outward g c = record { good = c .pre .good; grown = grown-none (c .args .labels .now) }
+
 pub reduced-requires : need.reduced-requires
 reduced-requires g c κs =
     let K = g .Cost·CostKind .kind in
