@@ -20,6 +20,9 @@ module _ {C : Type 0} (K : Kind C) (laws : Laws K) where
   pub size-minus : (a b : C) → K .size (minus K a b) ≤ K .size a + K .size b
   size-minus a b = omega (arith, laws .adds .size-plus a (K .neg b), size-neg b)
 
+  pub size-reduced : (c f t : C) → K .size (minus K (K .plus c f) t) ≤ K .size c + K .size f + K .size t
+  size-reduced c f t = omega (arith, size-minus (K .plus c f) t, laws .adds .size-plus c f)
+
 -- the size of a price that was read
 pub read-size : {C : Type 0} (K : Kind C) (b : ℕ) (ps : List C) (i : ℕ) (x : C) → Bounded K b ps → i < length ps → x ≡ getD ps i x → K .size x ≤ b
 read-size K b ps i x h l e = subst (λ z. K .size z ≤ b) (sym (getD-read ps i x l e (K .zero))) (h i l)

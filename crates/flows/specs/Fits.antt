@@ -31,7 +31,11 @@ Small flow = (i : ℕ) → natAbs (getD flow i (pos 0)) ≤ flow-limit
 abbrev pub Bounded : {C : Type 0} → Kind C → ℕ → List C → Type 0
 Bounded K b prices = (k : ℕ) → k < length prices → K .size (getD prices k (K .zero)) ≤ b
 
--- the largest size that a price has on the way, and that one change of prices or one reduced cost has
+-- the largest size that a price has after a search for one chain
+abbrev pub found-limit : ℕ
+found-limit = 600000000000000
+
+-- the largest size that a price has while prices are tidied, and that one change of prices or one reduced cost has
 abbrev pub price-limit : ℕ
 price-limit = 1250000000000000
 
