@@ -60,6 +60,19 @@ module _ {C : Type 0} where
   each-long P (a ∷ rest) [] h = absurd h
   each-long P (a ∷ rest) (f ∷ fs) (h, hs) = ap suc (each-long P rest fs hs)
 
+  pub each-set : (P : Arc C → ℤ → Type 0) (arcs : List (Arc C)) (fs : List ℤ) (i : ℕ) (a : Arc C) (y : ℤ) → Each-arc P arcs fs → Is-at arcs i a → P a y → Each-arc P arcs (set fs i y)
+  each-set P [] fs i a y h (l, e) p = absurd (omega arith)
+  each-set P (b ∷ rest) [] i a y h at p = absurd h
+  each-set P (b ∷ rest) (f ∷ fs) zero a y (h, hs) (l, e) p = (subst (λ z. P z y) e p, hs)
+  each-set P (b ∷ rest) (f ∷ fs) (suc i) a y (h, hs) (l, e) p = (h, each-set P rest fs i a y hs (omega arith, e) p)
+
+  -- by the number that stands there, or 0
+  pub each-getD : (P : Arc C → ℤ → Type 0) (arcs : List (Arc C)) (fs : List ℤ) (i : ℕ) (a : Arc C) → Each-arc P arcs fs → Is-at arcs i a → P a (getD fs i (pos 0))
+  each-getD P [] fs i a h (l, e) = absurd (omega arith)
+  each-getD P (b ∷ rest) [] i a h at = absurd h
+  each-getD P (b ∷ rest) (f ∷ fs) zero a (h, hs) (l, e) = subst (λ z. P z f) (sym e) h
+  each-getD P (b ∷ rest) (f ∷ fs) (suc i) a (h, hs) (l, e) = each-getD P rest fs i a hs (omega arith, e)
+
 pub record Monoid {M : Type 0} (none : M) (plus : M → M → M) : Type 0 where
   pub assoc : (a b c : M) → plus (plus a b) c ≡ plus a (plus b c)
   pub comm : (a b : M) → plus a b ≡ plus b a

@@ -2,7 +2,7 @@
 use mathlib.Core.Path.{_≡_, refl, sym, ap, ap₂, _∙_, subst}
 use mathlib.Core.Bool.{Bool, true, false, cond}
 use mathlib.Core.List.{List, [], _∷_}
-use Prim.Native.Nat.{ℕ, zero, suc, _≤_, _<_}
+use Prim.Native.Nat.{ℕ, zero, suc, _≤_}
 use native.Mathlib.Omega.{arith}
 use lib.Dec.{eqb}
 use lib.IntN.{ℤ, pos, _+ℤ_, _-ℤ_, negℤ, +ℤ-assoc, +ℤ-negℤ-cancel}
@@ -11,7 +11,7 @@ use borrow.Author.Differences.{ints}
 use Rattle.costs.specs.Kinds.{Kind}
 use Rattle.networks.specs.declared.network.Arc.{Arc}
 use Rattle.flows.specs.declared.steps.Step.{Step}
-use Rattle.flows.specs.Flows.{sum-arcs, leaving, entering, imbalance}
+use Rattle.flows.specs.Flows.{sum-arcs, leaving, entering, imbalance, Meets}
 use Rattle.networks.specs.Nets.{Is-at}
 use Rattle.flows.specs.Laps.{near, far, first, Chain, moved, sent, Lap, Better, Laps, Laps-keep-imbalances}
 use Rattle.flows.proofs.ArcSums.{at-one}
@@ -102,3 +102,7 @@ module _ {C : Type 0} (K : Kind C) where
   pub laps-more : (arcs : List (Arc C)) (f g h : List ℤ) (n : ℕ) → Laps K arcs f n g → Lap arcs g h → Better K arcs g h → Laps K arcs f (suc n) h
   laps-more arcs f g h zero e lap better = (h, subst (λ z. Lap arcs z h) (sym e) lap, subst (λ z. Better K arcs z h) (sym e) better, refl)
   laps-more arcs f g h (suc n) (k, one, better′, rest) lap better = (k, one, better′, laps-more arcs k g h n rest lap better)
+
+  -- laps leave the needs met
+  pub laps-meet : (arcs : List (Arc C)) (needs f g : List ℤ) (n : ℕ) → length f ≡ length arcs → Laps K arcs f n g → Meets arcs needs f → Meets arcs needs g
+  laps-meet arcs needs f g n l laps meets m lo hi = laps-keep arcs f g n l laps m ∙ meets m lo hi

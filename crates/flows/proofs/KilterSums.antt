@@ -1,7 +1,7 @@
 -- The kilter numbers of all arcs, added up: their limit, and when they come to zero.
 use mathlib.Core.Path.{_≡_, refl}
 use mathlib.Core.List.{List, [], _∷_}
-use Prim.Native.Nat.{ℕ, suc, _+_, _*_, _≤_}
+use Prim.Native.Nat.{_*_, _≤_}
 use native.Mathlib.Omega.{arith}
 use lib.IntN.{ℤ}
 use lib.ListN.{length}
@@ -10,7 +10,7 @@ use Rattle.std.specs.shelf.Lists.{All}
 use Rattle.costs.specs.Kinds.{Kind, Laws}
 use Rattle.networks.specs.Limits.{flow-limit}
 use Rattle.networks.specs.declared.network.Arc.{Arc}
-use Rattle.flows.specs.Flows.{Each-arc, Limited}
+use Rattle.flows.specs.Flows.{Each-arc}
 use Rattle.flows.specs.Kilter.{reduced, In-kilter, kilter-number, kilter-sum, lap-limit, Kilter-sum-is-limited, Kilter-sum-tells}
 use Rattle.flows.proofs.Numbers.{number-limited, number-zero, zero-number}
 

@@ -12,7 +12,7 @@ use Rattle.std.proofs.shelf.Elements.{all-weaker}
 use Rattle.std.proofs.shelf.Signed.{by-ltZ}
 use Rattle.costs.specs.Kinds.{Kind, Laws, sums}
 use Rattle.networks.specs.declared.network.Arc.{Arc}
-use Rattle.flows.specs.Flows.{over, sum-arcs, leaving, entering, total, Each-arc, Within, Ends, Same-imbalances, Least}
+use Rattle.flows.specs.Flows.{over, sum-arcs, leaving, entering, total, Each-arc, Within, Ends, Same-imbalances}
 use Rattle.flows.specs.Kilter.{price, reduced, In-kilter, Kilter-is-least}
 use Rattle.flows.proofs.Group.{assoc, right-comm, cancel-le, add-le, le-refl, times-zero, times-add, times-plus, times-minus, times-up, times-down}
 use Rattle.flows.proofs.ArcSums.{costs, worth, over-add, over-same, worth-add, worth-same, gathered, each-weaker}

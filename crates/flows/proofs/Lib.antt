@@ -15,3 +15,6 @@ pub mod Rooms
 pub mod Prices
 pub mod Wants
 pub mod Settling
+pub mod Tested
+pub mod Nearer
+pub mod Shifts

@@ -5,14 +5,13 @@ use mathlib.Core.List.{List, [], _∷_}
 use Prim.Native.Nat.{ℕ, _+_, _≤_}
 use native.Mathlib.Omega.{arith}
 use lib.IntN.{ℤ}
-use lib.ListN.{length}
 use lib.Signed.{_≤ℤ_, _<ℤ_}
 use Rattle.std.specs.shelf.Lists.{All}
-use Rattle.costs.specs.Kinds.{Kind, Laws, minus, less}
+use Rattle.costs.specs.Kinds.{Kind, Laws, minus}
 use Rattle.networks.specs.declared.network.Arc.{Arc}
 use Rattle.flows.specs.Flows.{Each-arc, Ends}
 use Rattle.flows.specs.Kilter.{price, reduced, kilter-number, kilter-sum}
-use Rattle.flows.specs.Prices.{Raised, Sign-kept, Signs-kept, Kept-signs-ease}
+use Rattle.flows.specs.Prices.{Raised, Sign-kept, Kept-signs-ease}
 use Rattle.flows.proofs.Group.{assoc, comm, left, right, right-comm, back, cancel, cancel-le, add-le, le-refl, below, above}
 use Rattle.flows.proofs.Numbers.{leaving-repriced, entering-repriced, signs-repriced}
 

@@ -16,12 +16,12 @@ use Rattle.costs.specs.Kinds.{Kind, Laws, sums, minus}
 use Rattle.networks.specs.Limits.{flow-limit}
 use Rattle.networks.specs.declared.network.Arc.{Arc}
 use Rattle.flows.specs.declared.steps.Step.{Step}
-use Rattle.flows.specs.Flows.{total, outside, excess, Limited}
+use Rattle.flows.specs.Flows.{total, outside, excess, Each-arc, Limited}
 use Rattle.flows.specs.Kilter.{price, reduced, kilter-number, kilter-sum}
 use Rattle.networks.specs.Nets.{Is-at}
 use Rattle.flows.specs.Laps.{near, far, Leads, first, Chain, Apart, moved, sent, Better}
-use Rattle.flows.proofs.Group.{off-on, assoc, comm, left, right, left-comm, swap, cancel, cancel-le, cancel-less, le-refl, add-le, below, times-zero, times-one, times-add, times-plus, times-minus, times-cancel, times-up, times-down}
-use Rattle.flows.proofs.ArcSums.{same-at, at-place, naturals, costs, over-set}
+use Rattle.flows.proofs.Group.{off-on, assoc, comm, left, left-comm, swap, cancel, cancel-le, cancel-less, le-refl, add-le, below, times-zero, times-one, times-add, times-plus, times-minus, times-cancel, times-up, times-down}
+use Rattle.flows.proofs.ArcSums.{at-place, each-getD, each-set, naturals, costs, over-set}
 use Rattle.flows.proofs.Numbers.{Eases, Mends, along-eases, against-eases, along-mends, against-mends}
 
 -- the arc has room for the change from f to g: along, up to hi where its reduced cost is not above zero, else up to lo; against alike
@@ -66,6 +66,16 @@ module _ {C : Type 0} (K : Kind C) (ps : List C) (arcs : List (Arc C)) where
   pub roomy-from-start : (x : ℤ) (steps : List Step) (fs : List ℤ) → Apart (map (λ s. s .arc) steps) → All (Has-room K ps arcs x fs) steps → Roomy K ps arcs x steps fs
   roomy-from-start x [] fs n h = tt
   roomy-from-start x (s ∷ rest) fs (n, ns) (h, hs) = (h, roomy-from-start x rest (set fs (s .arc) (moved x s fs)) ns (kept-room x fs (s .arc) (moved x s fs) rest n hs))
+
+  -- flows stay within the limits
+  pub sent-limited : (x : ℤ) (steps : List Step) (fs : List ℤ) → All (λ s. s .arc < length arcs) steps → Each-arc Limited arcs fs → Roomy K ps arcs x steps fs → Each-arc Limited arcs (sent x steps fs)
+  sent-limited x [] fs is h r = h
+  sent-limited x (s ∷ rest) fs (i, is) h (r, rs) =
+      let at = at-place arcs (s .arc) i in
+      let here = each-getD Limited arcs fs (s .arc) (at .0) h (at .1) in
+      sent-limited x rest (set fs (s .arc) (moved x s fs)) is
+      (each-set Limited arcs fs (s .arc) (at .0) (moved x s fs) h (at .1)
+      (here .0, here .1, room-limited K ps (at .0) (s .along) (getD fs (s .arc) (pos 0)) (moved x s fs) (r (at .0) (at .1)) here)) rs
 
 module _ {C : Type 0} (K : Kind C) (laws : Laws K) where
   lower : (t r m : C) → K .le r (K .zero) ≡ true → K .le (K .plus t (K .plus r m)) (K .plus t m) ≡ true

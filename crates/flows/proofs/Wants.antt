@@ -1,9 +1,9 @@
 -- An arc out of kilter wants to gain or to lose, and has room for it; an arc whose number does not rise stays in kilter.
-use mathlib.Core.Path.{_≡_, refl, sym, ap, _∙_, subst}
+use mathlib.Core.Path.{_≡_, sym, subst}
 use mathlib.Core.Bool.{Bool, true, false, not, cond, _&&_, _||_}
 use mathlib.Core.Logic.{_⊎_, inl, inr}
 use mathlib.Core.List.{List}
-use Prim.Native.Nat.{ℕ, _≤_}
+use Prim.Native.Nat.{_≤_}
 use native.Mathlib.Omega.{arith}
 use lib.IntN.{ℤ}
 use lib.Signed.{_≤ℤ_, _<ℤ_, ltZ}
@@ -12,9 +12,9 @@ use Rattle.std.proofs.shelf.Tests.{or-cases, and-parts, not-true}
 use Rattle.costs.specs.Kinds.{Kind, Laws}
 use Rattle.networks.specs.declared.network.Arc.{Arc}
 use Rattle.flows.specs.Flows.{Within}
-use Rattle.flows.specs.Kilter.{reduced, out-of-kilter, In-kilter, kilter-number}
+use Rattle.flows.specs.Kilter.{reduced, out-of-kilter, kilter-number}
 use Rattle.flows.proofs.Group.{off-on, le-refl}
-use Rattle.flows.proofs.Numbers.{off, number, number-zero, zero-number}
+use Rattle.flows.proofs.Numbers.{off, number-zero, zero-number}
 use Rattle.flows.proofs.Rooms.{Amiss}
 
 -- it wants to gain: flow < lo, or c < 0 with flow < hi

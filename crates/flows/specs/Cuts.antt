@@ -1,5 +1,4 @@
 -- Cuts: nodes that need more than can leave them. A set of nodes is a test of their numbers.
-use mathlib.Core.Path.{_≡_}
 use mathlib.Core.Bool.{Bool, cond, not, _&&_}
 use mathlib.Core.List.{List, [], _∷_}
 use Prim.Native.Nat.{ℕ, suc, _-_, _≤_}

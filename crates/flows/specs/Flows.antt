@@ -2,7 +2,7 @@
 use mathlib.Core.Path.{_≡_}
 use mathlib.Core.Bool.{true, cond}
 use mathlib.Core.List.{List, [], _∷_}
-use Prim.Native.Nat.{ℕ, _+_, _-_, _≤_}
+use Prim.Native.Nat.{ℕ, zero, suc, _+_, _-_, _≤_}
 use lib.Dec.{eqb}
 use lib.IntN.{ℤ, pos, _+ℤ_, _-ℤ_, natAbs}
 use lib.ListN.{length, getD}
@@ -37,6 +37,11 @@ entering n a f = cond (eqb (a .to) n) f (pos 0)
 -- the flow on arcs leaving node n less the flow on arcs entering it; a loop counts on both sides
 abbrev pub imbalance : {C : Type 0} → List (Arc C) → List ℤ → ℕ → ℤ
 imbalance arcs flow n = sum-arcs (leaving n) arcs flow -ℤ sum-arcs (entering n) arcs flow
+
+-- the imbalances of n nodes from node k on
+abbrev pub imbalances-from : {C : Type 0} → ℕ → ℕ → List (Arc C) → List ℤ → List ℤ
+imbalances-from k zero arcs flow = []
+imbalances-from k (suc n) arcs flow = imbalance arcs flow k ∷ imbalances-from (suc k) n arcs flow
 
 -- cost times flow, added up
 abbrev pub total : {C : Type 0} → Sums C → List (Arc C) → List ℤ → C

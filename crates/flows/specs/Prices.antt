@@ -1,6 +1,6 @@
 -- Changes of prices.
 use mathlib.Core.Path.{_≡_}
-use mathlib.Core.Bool.{Bool, true, cond}
+use mathlib.Core.Bool.{Bool, true, cond, _&&_, _||_}
 use mathlib.Core.List.{List}
 use Prim.Native.Nat.{ℕ, _≤_}
 use lib.IntN.{ℤ}
@@ -24,6 +24,10 @@ pub record Sign-kept {C : Type 0} (K : Kind C) (c d : C) : Type 0 where
 -- no reduced cost turns its sign from the prices ps to qs
 abbrev pub Signs-kept : {C : Type 0} → Kind C → List (Arc C) → List C → List C → Type 0
 Signs-kept K arcs ps qs = All (λ a. Sign-kept K (reduced K ps a) (reduced K qs a)) arcs
+
+-- a rise by c comes before one by d: what is at least zero first, then by how far from zero
+abbrev pub nearer : {C : Type 0} → Kind C → C → C → Bool
+nearer K c d = cond (K .le (K .zero) d) (K .le (K .zero) c && K .le c d) (K .le (K .zero) c || K .le d c)
 
 -- where no sign turns, no kilter number rises
 abbrev pub Kept-signs-ease : {C : Type 0} → Kind C → Type 0

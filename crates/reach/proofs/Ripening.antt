@@ -21,8 +21,7 @@ use Rattle.flows.specs.Fits.{Fit, Fitting, Bounded, price-limit, change-limit}
 use Rattle.labels.specs.Moves.{may}
 use Rattle.labels.specs.Good.{node-at, place-of, Labelled, Good}
 use Rattle.flows.proofs.ArcSums.{same-at}
-use Rattle.flows.proofs.Sizes.{size-neg, size-reduced}
-use Rattle.flows.proofs.Group.{cancel, le-refl, left}
+use Rattle.flows.proofs.Group.{cancel, le-refl, left, size-neg, size-reduced}
 use Rattle.flows.proofs.Prices.{to-raised, from-raised}
 use Rattle.reach.specs.declared.scans.Best.{Best}
 use Rattle.reach.specs.Lifts.{Lifted, lifted-at}

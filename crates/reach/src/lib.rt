@@ -1,3 +1,7 @@
 // Reach: from the source of a chosen arc to its sought node, with changes of prices on the way.
+
+mod rounds;
 mod scans;
 
+pub use rounds::Reach;
+pub use rounds::reach;

@@ -10,19 +10,17 @@ use Rattle.std.specs.declared.option.Option.{Option}
 use Rattle.std.specs.declared.option.Option.the-variants.{Some, None}
 use Rattle.networks.specs.declared.network.Arc.{Arc}
 use Rattle.costs.specs.Kinds.{Kind, Laws, minus}
-use Rattle.flows.proofs.Group.{right, right-comm, swap, cancel, cancel-left, cancel-le, le-refl}
+use Rattle.flows.proofs.Group.{right, right-comm, swap, cancel, cancel-left, cancel-le, le-refl, size-zero, size-reduced, size-neg, size-minus}
 use Rattle.tidy.specs.declared.picks.Pick.{Pick}
 use Rattle.tidy.specs.Picks.{slack-of, nearer, nearest-of, picked, unmarked, Raised, Marked-bounded, Good-pick, labelled-at, Sound}
 use Rattle.tidy.proofs.Order.{some-none, nearest-allows, nearest-is, nearest-none}
 use Rattle.tidy.proofs.Shifts.{arc-kept, back}
-use Rattle.flows.proofs.Sizes.{size-zero, size-reduced}
 use Rattle.tidy.proofs.Marks.{some-labelled-at}
 use Rattle.tidy.proofs.Sounds.{none-larger}
 use Rattle.flows.specs.Kilter.{reduced, price, largest}
 use Rattle.flows.specs.Flows.{Ends}
 use Rattle.flows.specs.Prices.{Sign-kept, Signs-kept}
 use Rattle.flows.specs.Fits.{Bounded, price-limit, change-limit}
-use Rattle.flows.proofs.Sizes.{size-neg, size-minus}
 
 pub all-both : {X : Type 0} (P Q R : X → Type 0) → ((x : X) → P x → Q x → R x) → (xs : List X) → All P xs → All Q xs → All R xs
 all-both P Q R h [] p q = tt

@@ -10,12 +10,10 @@ use lib.ListN.{length, getD, set}
 use lib.Seq.{getD-set-same, getD-set-other}
 use Rattle.std.proofs.shelf.Tests.{cases-eq}
 use Rattle.costs.specs.Kinds.{Kind, Laws, minus}
-use Rattle.flows.proofs.Group.{right, cancel, off-on}
+use Rattle.flows.proofs.Group.{right, cancel, off-on, size-zero, size-minus}
 use Rattle.tidy.specs.Picks.{Raised, Marked-bounded, Shifted}
-use Rattle.flows.proofs.Sizes.{size-zero}
 use Rattle.tidy.proofs.Shifts.{back}
 use Rattle.flows.specs.Fits.{Bounded}
-use Rattle.flows.proofs.Sizes.{size-minus}
 
 pub apart : {X : Type 0} (u j : ℕ) → (u ≡ j → X) → (u ≢ j → X) → X
 apart u j h k = ⊎-elim h k (cases-eq u j)

@@ -13,7 +13,7 @@ use Rattle.networks.specs.declared.network.Arc.{Arc}
 use Rattle.costs.specs.Kinds.{Kind, Laws}
 use Rattle.tidy.specs.declared.picks.Pick.{Pick}
 use Rattle.tidy.specs.Picks.{unmarked, Raised, Marked-bounded, Shifted, Good-pick, Tidied}
-use Rattle.flows.proofs.Sizes.{size-zero}
+use Rattle.flows.proofs.Group.{size-zero}
 use Rattle.tidy.proofs.Marks.{one-less, all-labelled-at, some-labelled-at}
 use Rattle.tidy.proofs.Shifts.{kept-same, kept-trans}
 use Rattle.tidy.proofs.Shifted.{apart, not-shifted, still-shifted, more-shifted, stays, moved, shift-small, all-small}

@@ -1,5 +1,5 @@
 use borrow.Author.Needs.{needs}
-use Rattle.flows.proofs.Sizes.{size-neg}
+use Rattle.flows.proofs.Group.{size-neg}
 use Rattle.flows.proofs.pricing.opposite.Needs as need
 
 pub returns-in-Some : need.returns-in-Some

@@ -10,7 +10,7 @@ use Rattle.std.proofs.shelf.Lists.{drop-more, drop-all}
 use Rattle.std.proofs.shelf.Signed.{toZ-ofZ}
 use Rattle.networks.specs.Nets.{shown}
 use Rattle.networks.proofs.Shown.{never-absent, arc-first, arc-is}
-use Rattle.flows.proofs.Sizes.{size-zero}
+use Rattle.flows.proofs.Group.{size-zero}
 use Rattle.flows.proofs.Totalling.{total-start, total-more, total-all}
 use Rattle.flows.proofs.totals.total.Needs as need
 
