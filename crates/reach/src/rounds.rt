@@ -62,7 +62,7 @@ fn own_limit<N: Network>(net: &N, flow: &[i32], prices: &[N::Cost], chosen: Step
 fn advance<N: Network>(net: &N, flow: &[i32], prices: &mut [N::Cost], chosen: Step, labels: &mut Labels) -> Round {
     let best = match look_round(net, flow, prices, chosen.arc, labels) {
         Scan::Open(i, along) => {
-            link(net, i, along, labels);
+            link(net, flow, prices, chosen.arc, i, along, labels);
             return Round::Labelled;
         }
         Scan::Shut(best) => best,
@@ -82,7 +82,7 @@ fn advance<N: Network>(net: &N, flow: &[i32], prices: &mut [N::Cost], chosen: St
         }
     }
     raise(prices, labels, b.slack);
-    link(net, b.arc, b.along, labels);
+    link(net, flow, prices, chosen.arc, b.arc, b.along, labels);
     Round::Labelled
 }
 
