@@ -16,8 +16,8 @@ use Rattle.flows.proofs.Cuts.{Stuck, Strained}
 use Rattle.labels.specs.declared.labelling.Labels.{Labels}
 use Rattle.labels.specs.Good.{node-at, Labelled, Good}
 use Rattle.labels.specs.Ways.{Chosen}
-use Rattle.reach.specs.declared.rounds.Reach.{Reach}
-use Rattle.reach.specs.declared.rounds.Reach.the-variants.{Reached, Kilter, Cut}
+use Rattle.reach.specs.declared.rounds.Ending.{Ending}
+use Rattle.reach.specs.declared.rounds.Ending.the-variants.{Reached, Kilter, Cut}
 use Rattle.reach.specs.Scans.{is-labelled}
 
 -- prices of at most this size are searched at without tidying
@@ -42,7 +42,7 @@ pub record Cut-off {C : Type 0} (arcs : List (Arc C)) (flow : List ℤ) (chosen 
   pub strained : (a : Arc C) → Is-at arcs (chosen .arc) a → Strained (is-labelled ls) a (getD flow (chosen .arc) (pos 0))
 
 -- how the search for one chain ends
-abbrev pub Ends-with : {C : Type 0} → Kind C → List (Arc C) → List ℤ → List C → Step → Labels → Reach → Type 0
+abbrev pub Ends-with : {C : Type 0} → Kind C → List (Arc C) → List ℤ → List C → Step → Labels → Ending → Type 0
 Ends-with K arcs flow prices chosen ls Reached = Chain-found K arcs flow prices chosen ls
 Ends-with {C} K arcs flow prices chosen ls Kilter = (a : Arc C) → Is-at arcs (chosen .arc) a → out-of-kilter K (reduced K prices a) a (getD flow (chosen .arc) (pos 0)) ≡ false
 Ends-with K arcs flow prices chosen ls Cut = Cut-off arcs flow chosen ls

@@ -3,5 +3,5 @@
 mod rounds;
 mod scans;
 
-pub use rounds::Reach;
+pub use rounds::Ending;
 pub use rounds::reach;

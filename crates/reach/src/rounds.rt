@@ -30,7 +30,7 @@ pub enum Round {
 
 // How reach ends.
 #[derive(Clone, Copy)]
-pub enum Reach {
+pub enum Ending {
     Reached,
     Kilter,
     Cut,
@@ -93,7 +93,7 @@ pub fn reach<N: Network>(
     prices: &mut [N::Cost],
     chosen: Step,
     labels: &mut Labels,
-) -> Reach
+) -> Ending
     requires fitting { ⌜ Fitting (Cost·CostKind .kind) (length (now prices)) (shown (meaning (now net))) ⌝ }
     requires few { ⌜ length (now prices) ≤ 256 ⌝ }
     requires tame { ⌜ Bounded (Cost·CostKind .kind) large (now prices) ⌝ }
@@ -108,14 +108,14 @@ pub fn reach<N: Network>(
     let mut start = 0;
     for _round in 0..256 {
         if label(net, flow, prices, chosen.arc, chosen.node, start, labels) {
-            return Reach::Reached;
+            return Ending::Reached;
         }
         start = labels.count;
         match advance(net, flow, prices, chosen, labels) {
             Round::Labelled => {}
-            Round::Kilter => return Reach::Kilter,
-            Round::Cut => return Reach::Cut,
+            Round::Kilter => return Ending::Kilter,
+            Round::Cut => return Ending::Cut,
         }
     }
-    Reach::Cut
+    Ending::Cut
 }
