@@ -9,3 +9,6 @@ mod table;
 pub use table::ArcTable;
 pub use table::ArcTableNetwork;
 pub use table::Row;
+
+#[cfg(test)]
+mod tests;

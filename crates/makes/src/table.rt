@@ -4,7 +4,8 @@ ghost use mathlib.Core.Path.{_≡_};
 ghost use Prim.Native.Nat.{ℕ};
 ghost use lib.ListN.{length};
 ghost use Rattle.networks.specs.Answers.{answer, said};
-ghost use Rattle.makes.specs.Tables.{table-stop, table-net, rows-net};
+ghost use Rattle.networks.specs.Nets.{numbered};
+ghost use Rattle.makes.specs.Tables.{table-stop, table-net, rows-net, row-arc};
 use costs::CostKind;
 use networks::Arc;
 use networks::Bounds;
@@ -52,6 +53,42 @@ impl<'a, C> ArcTable<'a, C> {
     }
 }
 
+// The a-th row, counted from 1.
+fn row_at<C: Copy>(rows: &[Row<C>], a: usize) -> Option<Row<C>>
+    ensures { λ r. ⌜ r ≡ numbered (now (rows .entry)) a ⌝ }
+{
+    if a == 0 {
+        return None;
+    }
+    let i = a - 1;
+    if i >= rows.len() {
+        return None;
+    }
+    Some(rows[i])
+}
+
+// A row as an arc: nothing is held or fixed.
+fn shown<C>(row: Row<C>) -> Arc<C>
+    ensures { λ r. ⌜ r ≡ row-arc row ⌝ }
+{
+    let Row {
+        from,
+        to,
+        lo,
+        hi,
+        cost,
+    } = row;
+    Arc {
+        from,
+        to,
+        lo,
+        hi,
+        cost,
+        held: false,
+        fixed: false,
+    }
+}
+
 pub impl<C: CostKind> Network for ArcTable<'_, C> as ArcTableNetwork {
     type Cost = C;
 
@@ -73,15 +110,10 @@ pub impl<C: CostKind> Network for ArcTable<'_, C> as ArcTableNetwork {
         if !self.fit {
             return None;
         }
-        if a == 0 {
-            return None;
+        match row_at(self.rows, a) {
+            Some(row) => Some(shown(row)),
+            None => None,
         }
-        let i = a - 1;
-        if i >= self.rows.len() {
-            return None;
-        }
-        let row = self.rows[i];
-        Some(Arc { from: row.from, to: row.to, lo: row.lo, hi: row.hi, cost: row.cost, held: false, fixed: false })
     }
 
     fn rebound(&mut self, a: usize, b: Bounds) -> Result<(), Stop> {

@@ -1,2 +1,5 @@
+pub mod Back
+pub mod Below
 pub mod Numbered
+pub mod Places
 pub mod Shown

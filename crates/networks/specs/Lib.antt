@@ -3,3 +3,4 @@ pub mod Stops
 pub mod Answers
 pub mod Bounding
 pub mod Nets
+pub mod Locks

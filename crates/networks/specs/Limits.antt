@@ -11,6 +11,10 @@ most-nodes = 256
 abbrev pub most-arcs : ℕ
 most-arcs = 1024
 
+-- the largest count that a call can answer
+abbrev pub most-counted : ℕ
+most-counted = 18446744073709551615
+
 -- the largest absolute value of a bound or a flow
 abbrev pub flow-limit : ℕ
 flow-limit = 1000000

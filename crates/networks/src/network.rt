@@ -1,8 +1,9 @@
 // What every network owes: one meaning, and answers that are read off it.
 
 ghost use mathlib.Core.Path.{_≡_};
-ghost use Prim.Native.Nat.{ℕ};
+ghost use Prim.Native.Nat.{ℕ, min};
 ghost use lib.ListN.{length};
+ghost use Rattle.networks.specs.Limits.{most-counted};
 ghost use Rattle.networks.specs.Nets.{Net, arc-at, rebound-stop, rebounded, recost-stop, recosted, take-out-stop, taken, hand-back-stop, handed-back};
 ghost use Rattle.networks.specs.Answers.{answer, said, tagged, returned, answer-back};
 use crate::Bounds;
@@ -36,9 +37,9 @@ pub trait Network {
     fn arcs(&self) -> usize
         ensures { λ r. ⌜ r ≡ length (meaning (now (self .entry)) .arcs) ⌝ };
 
-    // How many lock-outs there are; they are numbered from the lowest, 1 upward.
+    // How many lock-outs there are, as far as the number goes; they are numbered from the lowest, 1 upward.
     fn lockouts(&self) -> usize
-        ensures { λ r. ⌜ r ≡ length (meaning (now (self .entry)) .locks) ⌝ };
+        ensures { λ r. ⌜ r ≡ min (length (meaning (now (self .entry)) .locks)) most-counted ⌝ };
 
     // An arc as it shows; 0 and numbers above A are absent.
     fn arc(&self, a: usize) -> Option<Arc<Self::Cost>>

@@ -23,4 +23,16 @@ impl Tag {
     {
         self.arc
     }
+
+    // Only a lock-out makes a tag.
+    pub(crate) fn new(arc: usize) -> Tag
+        ensures { λ r. ⌜ r ≡ record { arc = arc } ⌝ }
+    {
+        Tag { arc }
+    }
+
+    // Only a lock-out spends one. Taken apart here, a tag is not dropped.
+    pub(crate) fn spend(self) {
+        let Tag { arc: _ } = self;
+    }
 }
