@@ -2,16 +2,18 @@
 use mathlib.Core.Path.{_≡_, refl, sym, ap, subst, _∙_}
 use mathlib.Core.Bool.{Bool, true, false, cond, _&&_}
 use mathlib.Core.List.{List, [], _∷_}
-use Prim.Native.Nat.{ℕ, zero, suc, _+_, _≤_, _<_}
+use Prim.Native.Nat.{ℕ, zero, suc, _+_, _-_, _≤_, _<_}
 use native.Mathlib.Omega.{arith}
-use lib.Dec.{leb}
+use lib.Dec.{leb, eqb}
 use lib.IntN.{ℤ, pos, natAbs}
 use lib.ListN.{length, getD}
 use lib.Signed.{_≤ℤ_, leZ}
 use Rattle.std.specs.declared.option.Option.{Option}
 use Rattle.std.specs.declared.option.Option.the-variants.{Some, None}
 use Rattle.std.proofs.shelf.Signed.{ints}
-use Rattle.std.proofs.shelf.Tests.{and-parts, leb-true}
+use Rattle.std.proofs.shelf.Tests.{and-parts, leb-true, eqb-true}
+use Rattle.networks.proofs.Shown.{length-shown}
+use Rattle.flows.specs.Flows.{imbalance, Meets}
 use Rattle.costs.specs.Kinds.{Kind}
 use Rattle.networks.specs.declared.network.Arc.{Arc}
 use Rattle.networks.specs.Limits.{cost-limit, in-limits, bounds-fit, flow-limit}
@@ -65,3 +67,57 @@ module _ {C : Type 0} (K : Kind C) (N : ℕ) where
   small k [] (f ∷ fs) l e i = absurd (omega arith)
   small k (x ∷ xs) (f ∷ fs) l e zero = fit-one k x f (neither (arc-stop (K .size) N k x f) _ e .0) .1
   small k (x ∷ xs) (f ∷ fs) l e (suc i) = small (suc k) xs fs (omega arith) (neither (arc-stop (K .size) N k x f) _ e .1) i
+
+-- the imbalances are the needs
+met : {C : Type 0} (arcs : List (Arc C)) (flow : List ℤ) (k : ℕ) (needs : List ℤ) → needs-stop arcs flow k needs ≡ None → (j : ℕ) → j < length needs → imbalance arcs flow (k + j) ≡ getD needs j (pos 0)
+met arcs flow k [] e j h = absurd (omega arith)
+met arcs flow k (d ∷ ds) e zero h =
+    let p = passed (leZ (imbalance arcs flow k) d && leZ d (imbalance arcs flow k)) 6 k _ e in
+    let q = and-parts (leZ (imbalance arcs flow k) d) (leZ d (imbalance arcs flow k)) (p .0) in
+    let z : k + 0 ≡ k = omega arith in
+    ap (imbalance arcs flow) z ∙ same (imbalance arcs flow k) d (q .0) (q .1)
+  where
+    same : (x y : ℤ) → leZ x y ≡ true → leZ y x ≡ true → x ≡ y
+    same x y a b = grind (arith, ints)
+met arcs flow k (d ∷ ds) e (suc j) h =
+    let p = passed (leZ (imbalance arcs flow k) d && leZ d (imbalance arcs flow k)) 6 k _ e in
+    let z : k + suc j ≡ suc k + j = omega arith in
+    ap (imbalance arcs flow) z ∙ met arcs flow (suc k) ds (p .1) j (omega arith)
+
+-- what is known where no stop comes
+pub record Passed {C : Type 0} (K : Kind C) (n : Net C) (flow needs : List ℤ) (prices marks : ℕ) : Type 0 where
+  pub some-nodes : 1 ≤ n .nodes
+  pub few-nodes : n .nodes ≤ 256
+  pub few-arcs : length (n .arcs) ≤ 1024
+  pub flow-long : length flow ≡ length (n .arcs)
+  pub needs-long : length needs ≡ n .nodes
+  pub prices-long : prices ≡ n .nodes
+  pub marks-long : marks ≡ n .nodes
+  pub fits : Fitting K (n .nodes) (shown n)
+  pub small-flow : Small flow
+  pub meets : Meets (shown n) needs flow
+
+pub no-stop : {C : Type 0} (K : Kind C) (n : Net C) (flow needs : List ℤ) (prices marks : ℕ) → first-stop (K .size) n flow needs prices marks ≡ None → Passed K n flow needs prices marks
+no-stop K n flow needs prices marks e =
+    let a = passed (counts-fit (n .nodes) (length (n .arcs))) 1 0 _ e in
+    let b = passed (lengths-fit (n .nodes) (length (n .arcs)) (length flow) (length needs) prices marks) 2 0 _ (a .1) in
+    let c = neither (arcs-stop (K .size) (n .nodes) 1 (shown n) flow) _ (b .1) in
+    let p = and-parts (leb 1 (n .nodes)) (leb (n .nodes) 256 && leb (length (n .arcs)) 1024) (a .0) in
+    let q = and-parts (leb (n .nodes) 256) (leb (length (n .arcs)) 1024) (p .1) in
+    let r = and-parts (eqb (length flow) (length (n .arcs))) (eqb (length needs) (n .nodes) && (eqb prices (n .nodes) && eqb marks (n .nodes))) (b .0) in
+    let s = and-parts (eqb (length needs) (n .nodes)) (eqb prices (n .nodes) && eqb marks (n .nodes)) (r .1) in
+    let t = and-parts (eqb prices (n .nodes)) (eqb marks (n .nodes)) (s .1) in
+    let long = eqb-true (length flow) (length (n .arcs)) (r .0) in
+    let all : length flow ≡ length (shown n) = long ∙ sym (length-shown n) in
+    record {
+      some-nodes = leb-true 1 (n .nodes) (p .0);
+      few-nodes = leb-true (n .nodes) 256 (q .0);
+      few-arcs = leb-true (length (n .arcs)) 1024 (q .1);
+      flow-long = long;
+      needs-long = eqb-true (length needs) (n .nodes) (s .0);
+      prices-long = eqb-true prices (n .nodes) (t .0);
+      marks-long = eqb-true marks (n .nodes) (t .1);
+      fits = fitting K (n .nodes) 1 (shown n) flow all (c .0);
+      small-flow = small K (n .nodes) 1 (shown n) flow all (c .0);
+      meets = λ m l h. let z : 1 + (m - 1) ≡ m = omega arith in sym (ap (imbalance (shown n) flow) z) ∙ met (shown n) flow 1 needs (c .1) (m - 1) (omega arith);
+    }

@@ -1,3 +1,10 @@
+pub mod Raising
 pub mod Repriced
 pub mod Sights
 pub mod Ripening
+pub mod Wanting
+pub mod Landing
+pub mod Aiming
+pub mod Easing
+pub mod Turning
+pub mod Rounding

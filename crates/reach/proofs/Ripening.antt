@@ -24,8 +24,8 @@ use Rattle.flows.proofs.ArcSums.{same-at}
 use Rattle.flows.proofs.Group.{cancel, le-refl, left, size-neg, size-reduced}
 use Rattle.flows.proofs.Prices.{to-raised, from-raised}
 use Rattle.reach.specs.declared.scans.Best.{Best}
-use Rattle.reach.specs.Lifts.{Lifted, lifted-at}
-use Rattle.reach.specs.Scans.{crossing-at, slack-at, Across, Best-is, Ripe}
+use Rattle.flows.specs.Prices.{Raised}
+use Rattle.reach.specs.Scans.{is-labelled, crossing-at, slack-at, Across, Best-is, Ripe}
 
 across-ends : (x y : Bool) (p q : ℕ) (along : Bool) → ltb 0 p ≡ x → ltb 0 q ≡ y → cond x (cond y None (Some true)) (cond y (Some false) None) ≡ Some along → (0 < cond along p q) × (cond along q p ≡ 0)
 across-ends true false p q true u v e = (ltb-true 0 p u, omega (arith, ltb-false 0 q v))
@@ -105,13 +105,18 @@ module _ {C : Type 0} (K : Kind C) (laws : Laws K) where
   not-below : (c : C) → K .le (K .zero) c ≡ false → K .le (K .zero) (K .neg c) ≡ true
   not-below c h = subst₂ (λ x y. K .le x y ≡ true) (laws .cancels c) (left K laws (K .neg c)) (laws .mono c (K .zero) (K .neg c) (laws .total (K .zero) c h))
 
+  -- a slack is what brings the reduced cost to zero, and above zero
+  pub slack-is : (c s : C) (a : Arc C) (way : Bool) (f : ℤ) → slack-at K c a way f ≡ Some s → (s ≡ cond way c (K .neg c)) × (K .le (K .zero) s ≡ true)
+  slack-is c s a true f e = let u = slack-up K c s a f e in (u .2, subst (λ z. K .le (K .zero) z ≡ true) (sym (u .2)) (laws .total c (K .zero) (u .0)))
+  slack-is c s a false f e = let u = slack-down′ K c s a f e in (u .2, subst (λ z. K .le (K .zero) z ≡ true) (sym (u .2)) (not-below c (u .0)))
+
   -- once the prices have risen by its slack an arc may move
-  module _ (arcs : List (Arc C)) (flow : List ℤ) (ps qs : List C) (chosen : ℕ) (ls : Labels) (e : C) (lifted : Lifted K e ls ps qs) where
+  module _ (arcs : List (Arc C)) (flow : List ℤ) (ps qs : List C) (chosen : ℕ) (ls : Labels) (e : C) (raised : Raised K (length ps) e (is-labelled ls) ps qs) where
     price-kept : (n : ℕ) → 1 ≤ n → n ≤ length ps → Labelled ls n → price K qs n ≡ price K ps n
-    price-kept n l h p = lifted .at (n - 1) (omega arith) ∙ cond-true (ltb 0 (place-of ls n)) (price K ps n) (K .plus (price K ps n) e) (lt-ltb 0 (place-of ls n) p)
+    price-kept n l h p = raised n l h ∙ cond-true (ltb 0 (place-of ls n)) (price K ps n) (K .plus (price K ps n) e) (lt-ltb 0 (place-of ls n) p)
 
     price-risen : (n : ℕ) → 1 ≤ n → n ≤ length ps → place-of ls n ≡ 0 → price K qs n ≡ K .plus (price K ps n) e
-    price-risen n l h p = lifted .at (n - 1) (omega arith) ∙ cond-false (ltb 0 (place-of ls n)) (price K ps n) (K .plus (price K ps n) e) (le-ltb 0 (place-of ls n) (omega arith))
+    price-risen n l h p = raised n l h ∙ cond-false (ltb 0 (place-of ls n)) (price K ps n) (K .plus (price K ps n) e) (le-ltb 0 (place-of ls n) (omega arith))
 
     tight : (a : Arc C) (along : Bool) (f : ℤ) → Fit K (length ps) a → Labelled ls (near a along) → place-of ls (far a along) ≡ 0 → slack-at K (reduced K ps a) a along f ≡ Some e → may K qs a along f ≡ true
     tight a true f fit p q s =
@@ -127,7 +132,7 @@ module _ {C : Type 0} (K : Kind C) (laws : Laws K) where
             ∙ from-raised K laws e (a .cost) (price K ps (a .from)) (price K ps (a .to))) in
         ap (λ z. ltZ (cond z (a .lo) (a .hi)) f) (ap (K .le (K .zero)) r ∙ le-refl K laws (K .zero)) ∙ u .1
 
-    pub ripe-lifted : (b : Best C) → b .slack ≡ e → Fitting K (length ps) arcs → Best-is K arcs flow ps chosen ls (Some b) → Ripe K arcs flow qs chosen ls (b .arc) (b .along)
-    ripe-lifted b q fitting (a, x, s) =
+    pub ripe-raised : (b : Best C) → b .slack ≡ e → Fitting K (length ps) arcs → Best-is K arcs flow ps chosen ls (Some b) → Ripe K arcs flow qs chosen ls (b .arc) (b .along)
+    ripe-raised b q fitting (a, x, s) =
         let w = crossed ls a (b .along) (x .leads) in
         (a, x, tight a (b .along) (getD flow (b .arc) (pos 0)) (fitting (b .arc) a (x .is)) (w .0) (w .1) (s ∙ ap Some q))

@@ -1,5 +1,6 @@
 // Reach: from the source of a chosen arc to its sought node, with changes of prices on the way.
 
+mod rises;
 mod rounds;
 mod scans;
 

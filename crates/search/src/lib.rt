@@ -1,7 +1,11 @@
-// The search for a least-cost flow: seek, reach, lap, tidy, and the guard that puts the flow back.
+// The search for a least-cost flow: each arc in turn is brought into kilter, lap by lap.
+//
+// `settle` answers least with the total and the laps, paused with the laps, or none; it refuses exactly
+// when the first stop says so. A guard over the lent flow puts it back as found unless the search commits,
+// which it does on the ways of least and paused only. Nothing is allocated.
 
+mod attempts;
 mod guard;
-mod reach;
 mod seek;
 mod settling;
 

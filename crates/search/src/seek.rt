@@ -1,22 +1,17 @@
 // Seek: each arc in turn is brought into kilter.
 
-use costs::CostKind;
-use crate::reach::Reach;
-use crate::reach::reach;
-use flows::Step;
-use flows::amiss;
-use flows::reduced;
-use labels::Labels;
-use labels::begin;
-use labels::far_end;
-use labels::lap;
+ghost use mathlib.Core.Path.{_≡_};
+ghost use Prim.Native.Nat.{ℕ, _+_, _≤_, _<_};
+ghost use lib.IntN.{ℤ};
+ghost use lib.ListN.{length};
+ghost use mathlib.Core.List.{List};
+ghost use Rattle.networks.specs.Nets.{shown};
+ghost use Rattle.search.specs.Going.{Ready, Going, Ended};
+use crate::attempts::Tried;
+use crate::attempts::attempt;
 use networks::Network;
-use tidy::tidy;
 
-// Prices above this size are tidied before the next search.
-const LARGE: u64 = 1_000_000_000_000;
-
-// How the seeking ends.
+// How the seeking ends, with the laps made.
 #[derive(Clone, Copy)]
 pub enum End {
     Kilter(u32),
@@ -24,65 +19,45 @@ pub enum End {
     Cut,
 }
 
-fn any_large<C: CostKind>(prices: &[C]) -> bool {
-    for p in prices {
-        if p.size() > LARGE {
-            return true;
-        }
-    }
-    false
-}
-
-// The step over the arc after i that brings it nearer to kilter.
-fn wanted<N: Network>(net: &N, flow: &[i32], prices: &[N::Cost], i: usize) -> Option<(Step, usize)> {
-    let Some(arc) = net.arc(i + 1) else {
-        return None;
-    };
-    let Some(along) = amiss(arc, reduced(arc, prices), flow[i]) else {
-        return None;
-    };
-    let source = far_end(arc, along);
-    let node = far_end(arc, !along);
-    Some((Step { node, arc: i, along }, source))
-}
-
-// Marks the labelled nodes.
-fn mark(marks: &mut [u8], labels: &Labels) {
-    for i in 0..marks.len() {
-        marks[i] = if labels.places[i] > 0 { 1 } else { 0 };
-    }
-}
-
-// Laps over the arc after i until it is in kilter.
-fn bring_in<N: Network>(net: &N, flow: &mut [i32], prices: &mut [N::Cost], marks: &mut [u8], i: usize, budget: u32, made: u32) -> End {
+// Attempts at the arc after i until it is in kilter. The flow found is where the search began.
+fn bring_in<N: Network>(
+    net: &N,
+    flow: &mut [i32],
+    prices: &mut [N::Cost],
+    marks: &mut [u8],
+    i: usize,
+    budget: u32,
+    made: u32,
+) -> End
+    requires ready { ⌜ Ready (Cost·CostKind .kind) (meaning (now net) .nodes) (shown (meaning (now net))) (now flow) (now prices) ⌝ }
+    requires arc { ⌜ i < length (now flow) ⌝ }
+    requires spent { ⌜ made ≤ budget ⌝ }
+    requires marks { ⌜ length (now marks) ≡ meaning (now net) .nodes ⌝ }
+    ensures { λ r. ⌜ ((found : List ℤ) → Going (Cost·CostKind .kind) (meaning (now (net .entry)) .nodes) (shown (meaning (now (net .entry)))) found i made (now (flow .entry)) (now (prices .entry)) → Ended (Cost·CostKind .kind) (meaning (now (net .entry)) .nodes) (shown (meaning (now (net .entry)))) found (i + 1) budget (now (flow .exit)) (now (prices .exit)) (now (marks .entry)) (now (marks .exit)) r) ⌝ }
+{
     let mut laps = made;
     loop {
-        if any_large(prices) {
-            tidy(net, prices);
-        }
-        let Some((chosen, source)) = wanted(net, flow, prices, i) else {
-            return End::Kilter(laps);
-        };
-        let mut labels = begin(source);
-        match reach(net, flow, prices, chosen, &mut labels) {
-            Reach::Kilter => return End::Kilter(laps),
-            Reach::Cut => {
-                mark(marks, &labels);
-                return End::Cut;
-            }
-            Reach::Reached => {
-                if laps >= budget {
-                    return End::Paused(laps);
-                }
-                lap(net, flow, prices, chosen, &labels);
-                laps += 1;
-            }
+        match attempt(net, flow, prices, marks, i, laps < budget) {
+            Tried::Kilter => return End::Kilter(laps),
+            Tried::Short => return End::Paused(laps),
+            Tried::Cut => return End::Cut,
+            Tried::Lapped => laps += 1,
         }
     }
 }
 
 // Brings every arc into kilter, in order; an arc in kilter stays so.
-pub fn seek<N: Network>(net: &N, flow: &mut [i32], prices: &mut [N::Cost], marks: &mut [u8], budget: u32) -> End {
+pub fn seek<N: Network>(
+    net: &N,
+    flow: &mut [i32],
+    prices: &mut [N::Cost],
+    marks: &mut [u8],
+    budget: u32,
+) -> End
+    requires going { ⌜ Going (Cost·CostKind .kind) (meaning (now net) .nodes) (shown (meaning (now net))) (now flow) 0 0 (now flow) (now prices) ⌝ }
+    requires marks { ⌜ length (now marks) ≡ meaning (now net) .nodes ⌝ }
+    ensures { λ r. ⌜ Ended (Cost·CostKind .kind) (meaning (now (net .entry)) .nodes) (shown (meaning (now (net .entry)))) (now (flow .entry)) (length (now (flow .entry))) budget (now (flow .exit)) (now (prices .exit)) (now (marks .entry)) (now (marks .exit)) r ⌝ }
+{
     let mut laps = 0;
     for i in 0..flow.len() {
         match bring_in(net, flow, prices, marks, i, budget, laps) {

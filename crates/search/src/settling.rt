@@ -1,5 +1,16 @@
 // Settle: the search for a least-cost flow from the flow found, with its answer.
 
+ghost use mathlib.Core.Path.{_≡_};
+ghost use mathlib.Core.Bool.{cond};
+ghost use Prim.Native.Nat.{ℕ, _≤_, _<_};
+ghost use lib.Dec.{leb};
+ghost use lib.ListN.{length, getD};
+ghost use Rattle.networks.specs.Answers.{refusal};
+ghost use Rattle.networks.specs.Nets.{shown};
+ghost use Rattle.flows.specs.Fits.{Fitting};
+ghost use Rattle.flows.specs.Kilter.{largest};
+ghost use Rattle.flows.specs.Stops.{first-stop};
+ghost use Rattle.search.specs.Settling.{read-price-as, tables, Settled};
 use costs::CostKind;
 use crate::guard::Restore;
 use crate::guard::save;
@@ -11,6 +22,7 @@ use networks::Network;
 use networks::Stop;
 use tidy::tidy;
 
+// What settle answers: a least flow with its total, a pause where the budget is used up, or that there is no flow.
 #[derive(Clone, Copy)]
 pub enum Answer<C> {
     Least { total: C, laps: u32 },
@@ -19,34 +31,54 @@ pub enum Answer<C> {
 }
 
 // The largest size of an arc's cost.
-fn largest_cost<N: Network>(net: &N) -> u64 {
+fn largest_cost<N: Network>(net: &N) -> u64
+    ensures { λ r. ⌜ r ≡ largest (Cost·CostKind .kind) (shown (meaning (now (net .entry)))) ⌝ }
+{
     let mut most = 0;
     for i in 0..net.arcs() {
-        if let Some(arc) = net.arc(i + 1) {
-            most = most.max(arc.cost.size());
-        }
+        let Some(arc) = net.arc(i + 1) else {
+            return most;
+        };
+        most = most.max(arc.cost.size());
     }
     most
 }
 
 // A price found too large is read as zero.
-fn read_price<C: CostKind>(p: C, limit: u64) -> C {
+fn read_price<C: CostKind>(p: C, limit: u64) -> C
+    ensures { λ r. ⌜ r ≡ read-price-as (C·CostKind .kind) limit p ⌝ }
+{
     if p.size() <= limit { p } else { C::zero() }
 }
 
-fn read_prices<C: CostKind>(prices: &mut [C], limit: u64) {
+fn read_prices<C: CostKind>(prices: &mut [C], limit: u64)
+    ensures { λ _. ⌜ ((k : ℕ) → k < length (now (prices .exit)) → getD (now (prices .exit)) k (C·CostKind .kind .zero) ≡ read-price-as (C·CostKind .kind) limit (getD (now (prices .entry)) k (C·CostKind .kind .zero))) ⌝ }
+{
     for i in 0..prices.len() {
         prices[i] = read_price(prices[i], limit);
     }
 }
 
-fn clear(marks: &mut [u8]) {
+fn clear(marks: &mut [u8])
+    ensures { λ _. ⌜ ((k : ℕ) → k < length (now (marks .exit)) → getD (now (marks .exit)) k 0 ≡ 0) ⌝ }
+{
     for m in marks.iter_mut() {
         *m = 0;
     }
 }
 
-pub fn settle<N: Network>(net: &N, flow: &mut [i32], needs: &[i32], prices: &mut [N::Cost], marks: &mut [u8], budget: u32) -> Result<Answer<N::Cost>, Stop> {
+// Searches for a least-cost flow with the imbalances of the flow found, by at most that many laps.
+pub fn settle<N: Network>(
+    net: &N,
+    flow: &mut [i32],
+    needs: &[i32],
+    prices: &mut [N::Cost],
+    marks: &mut [u8],
+    budget: u32,
+) -> Result<Answer<N::Cost>, Stop>
+    ensures stops { λ r. ⌜ refusal r ≡ first-stop (Cost·CostKind .kind .size) (meaning (now (net .entry))) (now (flow .entry)) (now (needs .entry)) (length (now (prices .entry))) (length (now (marks .entry))) ⌝ }
+    ensures settles { λ r. ⌜ Settled (Cost·CostKind .kind) (meaning (now (net .entry))) budget (tables (now (flow .entry)) (now (needs .entry)) (now (prices .entry)) (now (marks .entry))) r (tables (now (flow .exit)) (now (needs .entry)) (now (prices .exit)) (now (marks .exit))) ⌝ }
+{
     if let Some(stop) = first_stop(net, flow, needs, prices.len(), marks.len()) {
         return Err(stop);
     }
@@ -64,10 +96,7 @@ pub fn settle<N: Network>(net: &N, flow: &mut [i32], needs: &[i32], prices: &mut
             Ok(Answer::Paused { laps })
         }
         End::Kilter(laps) => {
-            let total = match total(net, guard.flow) {
-                Some(c) => c,
-                None => N::Cost::zero(),
-            };
+            let total = total(net, guard.flow);
             guard.committed = true;
             Ok(Answer::Least { total, laps })
         }
