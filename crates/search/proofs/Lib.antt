@@ -5,3 +5,5 @@ pub mod Starting
 pub mod AtHand
 pub mod Marking
 pub mod Steps
+pub mod Opening
+pub mod Answering

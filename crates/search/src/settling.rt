@@ -9,7 +9,10 @@ ghost use Rattle.networks.specs.Answers.{refusal};
 ghost use Rattle.networks.specs.Nets.{shown};
 ghost use Rattle.flows.specs.Fits.{Fitting};
 ghost use Rattle.flows.specs.Kilter.{largest};
+ghost use Rattle.flows.specs.Flows.{total as total-of};
 ghost use Rattle.flows.specs.Stops.{first-stop};
+ghost use Rattle.costs.specs.Kinds.{sums};
+ghost use Rattle.search.specs.Going.{Going, Ended};
 ghost use Rattle.search.specs.Settling.{read-price-as, tables, Settled};
 use costs::CostKind;
 use crate::guard::Restore;
@@ -67,6 +70,31 @@ fn clear(marks: &mut [u8])
     }
 }
 
+// How the search ended, and the total of the flow that it left.
+#[derive(Clone, Copy)]
+pub struct Found<C> {
+    pub end: End,
+    pub total: C,
+}
+
+// Seeks, and adds up what the flow costs then.
+fn search<N: Network>(
+    net: &N,
+    flow: &mut [i32],
+    prices: &mut [N::Cost],
+    marks: &mut [u8],
+    budget: u32,
+) -> Found<N::Cost>
+    requires going { ⌜ Going (Cost·CostKind .kind) (meaning (now net) .nodes) (shown (meaning (now net))) (now flow) 0 0 (now flow) (now prices) ⌝ }
+    requires few { ⌜ length (now flow) ≤ 1024 ⌝ }
+    requires marks { ⌜ length (now marks) ≡ meaning (now net) .nodes ⌝ }
+    ensures ended { λ r. ⌜ Ended (Cost·CostKind .kind) (meaning (now (net .entry)) .nodes) (shown (meaning (now (net .entry)))) (now (flow .entry)) (length (now (flow .entry))) budget (now (flow .exit)) (now (prices .exit)) (now (marks .entry)) (now (marks .exit)) (r .end) ⌝ }
+    ensures total { λ r. ⌜ r .total ≡ total-of (sums (Cost·CostKind .kind)) (shown (meaning (now (net .entry)))) (now (flow .exit)) ⌝ }
+{
+    let end = seek(net, flow, prices, marks, budget);
+    Found { end, total: total(net, flow) }
+}
+
 // Searches for a least-cost flow with the imbalances of the flow found, by at most that many laps.
 pub fn settle<N: Network>(
     net: &N,
@@ -87,18 +115,17 @@ pub fn settle<N: Network>(
     clear(marks);
     let saved = save(flow);
     let mut guard = Restore { flow, saved, committed: false };
-    let end = seek(net, guard.flow, prices, marks, budget);
+    let found = search(net, guard.flow, prices, marks, budget);
     tidy(net, prices);
-    match end {
+    match found.end {
         End::Cut => Ok(Answer::None),
         End::Paused(laps) => {
             guard.committed = true;
             Ok(Answer::Paused { laps })
         }
         End::Kilter(laps) => {
-            let total = total(net, guard.flow);
             guard.committed = true;
-            Ok(Answer::Least { total, laps })
+            Ok(Answer::Least { total: found.total, laps })
         }
     }
 }
