@@ -45,14 +45,16 @@ module _ {C : Type 0} (K : Kind C) (N : ℕ) where
       let q = and-parts (leb 1 (x .from)) (leb (x .from) N) (p .0) in
       let r = and-parts (leb 1 (x .to)) (leb (x .to) N) (p .1) in
       let s = and-parts (leZ (x .lo) (x .hi)) (in-limits (x .lo) && in-limits (x .hi)) (c .0) in
-      let t = and-parts (in-limits (x .lo)) (in-limits (x .hi)) (s .1) in
-      (record {
-        ends = (leb-true 1 (x .from) (q .0), leb-true (x .from) N (q .1), leb-true 1 (x .to) (r .0), leb-true (x .to) N (r .1));
-        order = in-order (x .lo) (x .hi) (s .0);
-        low = leb-true (natAbs (x .lo)) flow-limit (t .0);
-        high = leb-true (natAbs (x .hi)) flow-limit (t .1);
-        cost = leb-true (K .size (x .cost)) cost-limit (b .0);
-      }, leb-true (natAbs f) flow-limit (d .0))
+      let t = and-parts (in-limits (x .lo)) (in-limits (x .hi)) (s .1) in (
+        record {
+          ends = (leb-true 1 (x .from) (q .0), leb-true (x .from) N (q .1), leb-true 1 (x .to) (r .0), leb-true (x .to) N (r .1));
+          order = in-order (x .lo) (x .hi) (s .0);
+          low = leb-true (natAbs (x .lo)) flow-limit (t .0);
+          high = leb-true (natAbs (x .hi)) flow-limit (t .1);
+          cost = leb-true (K .size (x .cost)) cost-limit (b .0);
+        },
+        leb-true (natAbs f) flow-limit (d .0),
+      )
 
   -- the arcs
   pub fitting : (k : ℕ) (arcs : List (Arc C)) (flow : List ℤ) → length flow ≡ length arcs → arcs-stop (K .size) N k arcs flow ≡ None → Fitting K N arcs

@@ -112,7 +112,13 @@ fn needs_fault<N: Network>(net: &N, flow: &[i32], needs: &[i32]) -> Option<Stop>
 }
 
 // The first stop of a network with its tables, if there is one.
-pub fn first_stop<N: Network>(net: &N, flow: &[i32], needs: &[i32], prices: usize, marks: usize) -> Option<Stop>
+pub fn first_stop<N: Network>(
+    net: &N,
+    flow: &[i32],
+    needs: &[i32],
+    prices: usize,
+    marks: usize,
+) -> Option<Stop>
     ensures { λ r. ⌜ mapped told r ≡ first-stop (Cost·CostKind .kind .size) (meaning (now (net .entry))) (now (flow .entry)) (now (needs .entry)) prices marks ⌝ }
 {
     let nodes = net.nodes();

@@ -8,8 +8,8 @@ ghost use Rattle.costs.specs.Kinds.{sums};
 ghost use Rattle.networks.specs.Nets.{shown};
 ghost use Rattle.flows.specs.Fits.{Fitting, Small};
 ghost use Rattle.flows.specs.Flows.{total as total-of};
-use costs::CostKind;
 use crate::pricing::sum;
+use costs::CostKind;
 use networks::Network;
 
 // What an arc's flow costs, where neither is beyond the limits.

@@ -77,11 +77,13 @@ least-more {C} K arcs flow prices steps i d least x r h l moving low high all is
     let a : Arc C = at arcs (s .arc) (m .0) .0 in
     let there : Is-at arcs (s .arc) a = at arcs (s .arc) (m .0) .1 in
     let some : pos 1 ≤ℤ x = subst (λ z. pos 1 ≤ℤ z) (sym (is a there)) (room-some K prices a (s .along) (getD flow (s .arc) (pos 0)) (m .1 a there)) in
-    subst (λ z. (pos 1 ≤ℤ z) × (z ≤ℤ pos 2000000) × All (Fits-in K arcs flow prices z) (take (i + 1) steps)) (sym e)
-    (lesser-both least x low some, le-trans (cond (ltZ x least) x least) least (pos 2000000) (lesser-first least x) high,
-     all-more (Fits-in K arcs flow prices (cond (ltZ x least) x least)) steps i d h
-     (all-weaker (Fits-in K arcs flow prices least) (Fits-in K arcs flow prices (cond (ltZ x least) x least)) (λ t f b bt. le-trans (cond (ltZ x least) x least) least (room-at K prices b (t .along) (getD flow (t .arc) (pos 0))) (lesser-first least x) (f b bt)) (take i steps) all)
-     (λ b bt. subst (λ z. cond (ltZ x least) x least ≤ℤ z) (is b bt) (lesser-second least x)))
+    subst (λ z. (pos 1 ≤ℤ z) × (z ≤ℤ pos 2000000) × All (Fits-in K arcs flow prices z) (take (i + 1) steps)) (sym e) (
+      lesser-both least x low some,
+      le-trans (cond (ltZ x least) x least) least (pos 2000000) (lesser-first least x) high,
+      all-more (Fits-in K arcs flow prices (cond (ltZ x least) x least)) steps i d h
+          (all-weaker (Fits-in K arcs flow prices least) (Fits-in K arcs flow prices (cond (ltZ x least) x least)) (λ t f b bt. le-trans (cond (ltZ x least) x least) least (room-at K prices b (t .along) (getD flow (t .arc) (pos 0))) (lesser-first least x) (f b bt)) (take i steps) all)
+          (λ b bt. subst (λ z. cond (ltZ x least) x least ≤ℤ z) (is b bt) (lesser-second least x)),
+    )
   where
     at : (xs : List (Arc C)) (j : ℕ) → j < length xs → (a : Arc C) × Is-at xs j a
     at [] j h = absurd (omega arith)

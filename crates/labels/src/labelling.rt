@@ -8,9 +8,9 @@ ghost use lib.ListN.{length};
 ghost use Rattle.networks.specs.Nets.{shown};
 ghost use Rattle.flows.specs.Fits.{Fitting, Bounded, price-limit};
 ghost use Rattle.labels.specs.Good.{Begun, Good, Grown, place-of, pushed, outward-at};
-use costs::CostKind;
 use crate::moves::far_end;
 use crate::moves::may;
+use costs::CostKind;
 use flows::Step;
 use flows::reduced;
 use networks::Arc;
@@ -50,9 +50,21 @@ pub fn begin(source: usize) -> Labels
     requires { ⌜ (1 ≤ source) × (source ≤ 256) ⌝ }
     ensures { λ r. ⌜ Begun source r ⌝ }
 {
-    let step = Step { node: 0, arc: 0, along: false };
-    let entry = Entry { node: source, parent: 0, step };
-    let mut labels = Labels { places: [0; 256], entries: [entry; 256], count: 0 };
+    let step = Step {
+        node: 0,
+        arc: 0,
+        along: false,
+    };
+    let entry = Entry {
+        node: source,
+        parent: 0,
+        step,
+    };
+    let mut labels = Labels {
+        places: [0; 256],
+        entries: [entry; 256],
+        count: 0,
+    };
     push(&mut labels, entry);
     labels
 }
@@ -64,9 +76,17 @@ fn outward<C: CostKind>(arc: Arc<C>, node: usize, labels: &Labels) -> Option<boo
     ensures { λ r. ⌜ r ≡ outward-at arc node (now (labels .entry)) ⌝ }
 {
     if arc.from == node {
-        if labels.places[arc.to - 1] == 0 { Some(true) } else { None }
+        if labels.places[arc.to - 1] == 0 {
+            Some(true)
+        } else {
+            None
+        }
     } else if arc.to == node {
-        if labels.places[arc.from - 1] == 0 { Some(false) } else { None }
+        if labels.places[arc.from - 1] == 0 {
+            Some(false)
+        } else {
+            None
+        }
     } else {
         None
     }
@@ -106,8 +126,19 @@ fn extend<N: Network>(
         return;
     }
     let far = far_end(arc, along);
-    let step = Step { node, arc: i, along };
-    push(labels, Entry { node: far, parent: at, step });
+    let step = Step {
+        node,
+        arc: i,
+        along,
+    };
+    push(
+        labels,
+        Entry {
+            node: far,
+            parent: at,
+            step,
+        },
+    );
 }
 
 // Labels what can be reached from the nodes labelled from a place on, but not over the chosen arc, until the sought node is labelled.

@@ -111,13 +111,7 @@ fn send(flow: &mut [i32], steps: &[Step], amount: i32)
 }
 
 // Goes round once: over the chosen arc and back by the labels, with as much as there is room for.
-pub fn lap<N: Network>(
-    net: &N,
-    flow: &mut [i32],
-    prices: &[N::Cost],
-    chosen: Step,
-    labels: &Labels,
-)
+pub fn lap<N: Network>(net: &N, flow: &mut [i32], prices: &[N::Cost], chosen: Step, labels: &Labels)
     requires fitting { ⌜ Fitting (Cost·CostKind .kind) (length (now prices)) (shown (meaning (now net))) ⌝ }
     requires moderate { ⌜ Bounded (Cost·CostKind .kind) price-limit (now prices) ⌝ }
     requires long { ⌜ length (now flow) ≡ length (shown (meaning (now net))) ⌝ }

@@ -44,14 +44,16 @@ module _ {C : Type 0} (K : Kind C) (laws : Laws K) (arcs : List (Arc C)) (flow :
       (a : Arc C) × Aimed K arcs flow ps chosen ls a
   aim fitting good step sought =
       let (a, is, n, f) = step .leads in
-      let p : place-of ls (node-at ls 0) ≡ 1 = good .whole .placed 0 (omega (arith, good .some)) in
-      (a, record {
-    is = is;
-    fit = fitting (chosen .arc) a is;
-    outside = le-ltb 0 (place-of ls (near a (chosen .along))) (let q : place-of ls (near a (chosen .along)) ≡ 0 = ap (place-of ls) n ∙ sought in omega arith);
-    inside = lt-ltb 0 (place-of ls (far a (chosen .along))) (let q : place-of ls (far a (chosen .along)) ≡ 1 = ap (place-of ls) f ∙ p in omega arith);
-    wants = wants-from K laws ps a (chosen .along) (getD flow (chosen .arc) (pos 0)) (step .amiss a is) (step .moving .1 a is);
-  })
+      let p : place-of ls (node-at ls 0) ≡ 1 = good .whole .placed 0 (omega (arith, good .some)) in (
+        a,
+        record {
+          is = is;
+          fit = fitting (chosen .arc) a is;
+          outside = le-ltb 0 (place-of ls (near a (chosen .along))) (let q : place-of ls (near a (chosen .along)) ≡ 0 = ap (place-of ls) n ∙ sought in omega arith);
+          inside = lt-ltb 0 (place-of ls (far a (chosen .along))) (let q : place-of ls (far a (chosen .along)) ≡ 1 = ap (place-of ls) f ∙ p in omega arith);
+          wants = wants-from K laws ps a (chosen .along) (getD flow (chosen .arc) (pos 0)) (step .amiss a is) (step .moving .1 a is);
+        },
+      )
 
   module _ (a : Arc C) (aimed : Aimed K arcs flow ps chosen ls a) where
     crosses : (along : Bool) → is-labelled ls (near a along) ≡ false → is-labelled ls (far a along) ≡ true → (is-labelled ls (near a (not along)) ≡ true) × (is-labelled ls (far a (not along)) ≡ false)

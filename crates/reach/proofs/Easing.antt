@@ -105,13 +105,17 @@ module _ {C : Type 0} (K : Kind C) (laws : Laws K) where
   chosen-allows e inside ps a true f h o i w u = record {
     fits = h;
     leaves = λ p q. off-on (sym o ∙ p);
-    enters = λ p q. (room-in (K .le (K .zero) (reduced K ps a)) (a .lo) (a .hi) f h w,
-        λ v l. add-down K laws (reduced K ps a) e (up-to-own (reduced K ps a) e a true f (omega (arith, ints)) (under (a .lo) (a .hi) f (K .le (K .zero) (reduced K ps a) ≡ false) l w) u));
+    enters = λ p q. (
+      room-in (K .le (K .zero) (reduced K ps a)) (a .lo) (a .hi) f h w,
+      λ v l. add-down K laws (reduced K ps a) e (up-to-own (reduced K ps a) e a true f (omega (arith, ints)) (under (a .lo) (a .hi) f (K .le (K .zero) (reduced K ps a) ≡ false) l w) u),
+    );
   }
   chosen-allows e inside ps a false f h o i w u = record {
     fits = h;
-    leaves = λ p q. (room-out (K .le (reduced K ps a) (K .zero)) (a .lo) (a .hi) f h w,
-        λ v l. up-to-own (reduced K ps a) e a false f (over-low (a .lo) (a .hi) f (K .le (reduced K ps a) (K .zero) ≡ false) l w) (omega (arith, ints)) u);
+    leaves = λ p q. (
+      room-out (K .le (reduced K ps a) (K .zero)) (a .lo) (a .hi) f h w,
+      λ v l. up-to-own (reduced K ps a) e a false f (over-low (a .lo) (a .hi) f (K .le (reduced K ps a) (K .zero) ≡ false) l w) (omega (arith, ints)) u,
+    );
     enters = λ p q. off-on (sym o ∙ q);
   }
 
@@ -154,26 +158,29 @@ module _ {C : Type 0} (K : Kind C) (laws : Laws K) where
     other-allows e least i a is other = record {
       fits = fitting i a is .order;
       leaves = λ p q.
-          let x : Across arcs (chosen .arc) ls i a true = record { other = other; is = is; leads = leads-out ls a p q } in
-          (not-less (getD flow i (pos 0)) (cond (K .le (reduced K ps a) (K .zero)) (a .hi) (a .lo)) (seen .shut i (is .0) a true x),
-           λ u l. least (reduced K ps a) (seen .least i (is .0) a true x (reduced K ps a) (slack-out (reduced K ps a) a (getD flow i (pos 0)) u l)));
+          let x : Across arcs (chosen .arc) ls i a true = record { other = other; is = is; leads = leads-out ls a p q } in (
+            not-less (getD flow i (pos 0)) (cond (K .le (reduced K ps a) (K .zero)) (a .hi) (a .lo)) (seen .shut i (is .0) a true x),
+            λ u l. least (reduced K ps a) (seen .least i (is .0) a true x (reduced K ps a) (slack-out (reduced K ps a) a (getD flow i (pos 0)) u l)),
+          );
       enters = λ p q.
-          let x : Across arcs (chosen .arc) ls i a false = record { other = other; is = is; leads = leads-in ls a p q } in
-          (not-less (cond (K .le (K .zero) (reduced K ps a)) (a .lo) (a .hi)) (getD flow i (pos 0)) (seen .shut i (is .0) a false x),
-           λ u l. add-down K laws (reduced K ps a) e (least (K .neg (reduced K ps a)) (seen .least i (is .0) a false x (K .neg (reduced K ps a)) (slack-in (reduced K ps a) a (getD flow i (pos 0)) u l))));
+          let x : Across arcs (chosen .arc) ls i a false = record { other = other; is = is; leads = leads-in ls a p q } in (
+            not-less (cond (K .le (K .zero) (reduced K ps a)) (a .lo) (a .hi)) (getD flow i (pos 0)) (seen .shut i (is .0) a false x),
+            λ u l. add-down K laws (reduced K ps a) e (least (K .neg (reduced K ps a)) (seen .least i (is .0) a false x (K .neg (reduced K ps a)) (slack-in (reduced K ps a) a (getD flow i (pos 0)) u l))),
+          );
     }
 
     -- where there is no slack at all an arc that leads across has no room but back
     other-stuck : best ≡ None → (i : ℕ) (a : Arc C) → Is-at arcs i a → (i ≡ chosen .arc → ⊥) → Stuck (is-labelled ls) a (getD flow i (pos 0))
     other-stuck none i a is other = (
-        (λ p q.
+      (λ p q.
           let x : Across arcs (chosen .arc) ls i a true = record { other = other; is = is; leads = leads-out ls a p q } in
           go-out (K .le (reduced K ps a) (K .zero)) refl (not-less (getD flow i (pos 0)) (cond (K .le (reduced K ps a) (K .zero)) (a .hi) (a .lo)) (seen .shut i (is .0) a true x))
           (λ u l. seen .least i (is .0) a true x (reduced K ps a) (slack-out (reduced K ps a) a (getD flow i (pos 0)) u l))),
-        (λ p q.
+      (λ p q.
           let x : Across arcs (chosen .arc) ls i a false = record { other = other; is = is; leads = leads-in ls a p q } in
           go-in (K .le (K .zero) (reduced K ps a)) refl (not-less (cond (K .le (K .zero) (reduced K ps a)) (a .lo) (a .hi)) (getD flow i (pos 0)) (seen .shut i (is .0) a false x))
-          (λ u l. seen .least i (is .0) a false x (K .neg (reduced K ps a)) (slack-in (reduced K ps a) a (getD flow i (pos 0)) u l))))
+          (λ u l. seen .least i (is .0) a false x (K .neg (reduced K ps a)) (slack-in (reduced K ps a) a (getD flow i (pos 0)) u l))),
+    )
       where
         never : (s : C) → At-most K best s → ⊥
         never s h = subst (λ o. At-most K o s) none h
@@ -212,8 +219,8 @@ module _ {C : Type 0} (K : Kind C) (laws : Laws K) where
           Each-arc (λ a f. kilter-number K (reduced K qs a) a f ≤ kilter-number K (reduced K ps a) a f) arcs flow
       eased qs e raised up least short = all-repriced K laws e up (length ps) (is-labelled ls) ps qs raised arcs flow (all-from (Ends (length ps)) arcs (λ i b is. fitting i b is .ends))
           (by-arcs (Allows K e (is-labelled ls) ps)
-              (chosen-allows e (is-labelled ls) ps a (chosen .along) (getD flow (chosen .arc) (pos 0)) (aimed .fit .order) (aimed .outside) (aimed .inside) (aimed .wants) short)
-              (other-allows e least))
+          (chosen-allows e (is-labelled ls) ps a (chosen .along) (getD flow (chosen .arc) (pos 0)) (aimed .fit .order) (aimed .outside) (aimed .inside) (aimed .wants) short)
+          (other-allows e least))
 
       -- a rise by the own limit brings it into kilter
       pub in-kilter : (qs : List C) (e : C) → Raised K (length ps) e (is-labelled ls) ps qs → own ≡ Some e →

@@ -47,7 +47,7 @@ module _ {C : Type 0} (K : Kind C) (laws : Laws K) where
       outside = outside;
       landed = λ b h.
           let lands : price K qs (a .to) ≡ K .plus (a .cost) (price K ps (a .from)) = raised-outside K laws (length ps) ps (is-labelled ls) ps qs e raised (a .to) (fit .ends .2) (fit .ends .3) outside
-              ∙ ap (K .plus (price K ps (a .to))) q ∙ to-lands K laws (a .cost) (price K ps (a .from)) (price K ps (a .to)) in
+          ∙ ap (K .plus (price K ps (a .to))) q ∙ to-lands K laws (a .cost) (price K ps (a .from)) (price K ps (a .to)) in
           subst (λ z. K .size z ≤ b + cost-limit) (sym lands)
           (omega (arith, laws .adds .size-plus (a .cost) (price K ps (a .from)), fit .cost, h (a .from) (fit .ends .0) (fit .ends .1) inside));
     }
@@ -60,7 +60,7 @@ module _ {C : Type 0} (K : Kind C) (laws : Laws K) where
       outside = outside;
       landed = λ b h.
           let lands : price K qs (a .from) ≡ minus K (price K ps (a .to)) (a .cost) = raised-outside K laws (length ps) ps (is-labelled ls) ps qs e raised (a .from) (fit .ends .0) (fit .ends .1) outside
-              ∙ ap (K .plus (price K ps (a .from))) q ∙ from-lands K laws (a .cost) (price K ps (a .from)) (price K ps (a .to)) in
+          ∙ ap (K .plus (price K ps (a .from))) q ∙ from-lands K laws (a .cost) (price K ps (a .from)) (price K ps (a .to)) in
           subst (λ z. K .size z ≤ b + cost-limit) (sym lands)
           (omega (arith, size-minus K laws (price K ps (a .to)) (a .cost), fit .cost, h (a .to) (fit .ends .2) (fit .ends .3) inside));
     }

@@ -68,15 +68,15 @@ ready-to {C} K arcs flow prices chosen ls i a along n good fitting is (b, x, m) 
     let lab : 0 < place-of ls n = subst (λ z. 0 < place-of ls z) (sym s) (w .0) in
     let h = good .whole .holds n low lab in
     record {
-  low = low;
-  high = omega (arith, f .1);
-  labelled = lab;
-  place = omega (arith, h .0);
-  node = h .1;
-  here = sym s ∙ sym (h .1);
-  fresh = w .1;
-  moves = subst (λ z. may K prices z along (getD flow i (pos 0)) ≡ true) q m;
-}
+      low = low;
+      high = omega (arith, f .1);
+      labelled = lab;
+      place = omega (arith, h .0);
+      node = h .1;
+      here = sym s ∙ sym (h .1);
+      fresh = w .1;
+      moves = subst (λ z. may K prices z along (getD flow i (pos 0)) ≡ true) q m;
+    }
 
 -- what a slack is
 slack-up : {C : Type 0} (K : Kind C) (c s : C) (a : Arc C) (f : ℤ) → slack-at K c a true f ≡ Some s → (K .le c (K .zero) ≡ false) × (ltZ f (a .hi) ≡ true) × (s ≡ c)
@@ -122,14 +122,14 @@ module _ {C : Type 0} (K : Kind C) (laws : Laws K) where
     tight a true f fit p q s =
         let u = slack-up K (reduced K ps a) e a f s in
         let r : reduced K qs a ≡ K .zero = gone-up (reduced K ps a) e (reduced K qs a) (u .2)
-            (ap₂ (λ x y. K .plus (minus K (K .plus (a .cost) x) y) e) (price-kept (a .from) (fit .ends .0) (fit .ends .1) p) (price-risen (a .to) (fit .ends .2) (fit .ends .3) q)
-            ∙ to-raised K laws e (a .cost) (price K ps (a .from)) (price K ps (a .to))) in
+        (ap₂ (λ x y. K .plus (minus K (K .plus (a .cost) x) y) e) (price-kept (a .from) (fit .ends .0) (fit .ends .1) p) (price-risen (a .to) (fit .ends .2) (fit .ends .3) q)
+        ∙ to-raised K laws e (a .cost) (price K ps (a .from)) (price K ps (a .to))) in
         ap (λ z. ltZ f (cond z (a .hi) (a .lo))) (ap (λ z. K .le z (K .zero)) r ∙ le-refl K laws (K .zero)) ∙ u .1
     tight a false f fit p q s =
         let u = slack-down′ K (reduced K ps a) e a f s in
         let r : reduced K qs a ≡ K .zero = gone-down (reduced K ps a) e (reduced K qs a) (u .2)
-            (ap₂ (λ x y. minus K (K .plus (a .cost) x) y) (price-risen (a .from) (fit .ends .0) (fit .ends .1) q) (price-kept (a .to) (fit .ends .2) (fit .ends .3) p)
-            ∙ from-raised K laws e (a .cost) (price K ps (a .from)) (price K ps (a .to))) in
+        (ap₂ (λ x y. minus K (K .plus (a .cost) x) y) (price-risen (a .from) (fit .ends .0) (fit .ends .1) q) (price-kept (a .to) (fit .ends .2) (fit .ends .3) p)
+        ∙ from-raised K laws e (a .cost) (price K ps (a .from)) (price K ps (a .to))) in
         ap (λ z. ltZ (cond z (a .lo) (a .hi)) f) (ap (K .le (K .zero)) r ∙ le-refl K laws (K .zero)) ∙ u .1
 
     pub ripe-raised : (b : Best C) → b .slack ≡ e → Fitting K (length ps) arcs → Best-is K arcs flow ps chosen ls (Some b) → Ripe K arcs flow qs chosen ls (b .arc) (b .along)

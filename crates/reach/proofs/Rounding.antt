@@ -45,9 +45,9 @@ newly N ls ms old new grown n low labelled not =
     let p = ltb-true 0 (place-of ms n) labelled in
     let (few, is) = new .holds n low p in
     ⊎-elim (λ (h : place-of ms n - 1 < ls .count).
-        let e : node-at ls (place-of ms n - 1) ≡ n = ap (λ x. x .node) (sym (grown .same (place-of ms n - 1) h)) ∙ is in
-        let q : place-of ls n ≡ place-of ms n - 1 + 1 = ap (place-of ls) (sym e) ∙ old .placed (place-of ms n - 1) h in
-        absurd (let z = ltb-false 0 (place-of ls n) not in omega arith))
+    let e : node-at ls (place-of ms n - 1) ≡ n = ap (λ x. x .node) (sym (grown .same (place-of ms n - 1) h)) ∙ is in
+    let q : place-of ls n ≡ place-of ms n - 1 + 1 = ap (place-of ls) (sym e) ∙ old .placed (place-of ms n - 1) h in
+    absurd (let z = ltb-false 0 (place-of ls n) not in omega arith))
     (λ (h : ls .count ≤ place-of ms n - 1). omega arith) (cases-lt (place-of ms n - 1) (ls .count))
 
 kept-label : (ls ms : Labels) → Grown ls ms → (n : ℕ) → is-labelled ms n ≡ false → is-labelled ls n ≡ false
@@ -92,8 +92,11 @@ module _ {C : Type 0} (K : Kind C) (laws : Laws K) (old : List C) (tame : Bounde
     long = same ∙ held .long;
     shift = K .plus (held .shift) (risen .by);
     shifted = more;
-    shift-small = omega (arith, shift-small K laws (length old) old (is-labelled ls) qs (K .plus (held .shift) (risen .by)) more large (bound (ls .count) + 1000000) (risen .node) (risen .low) (omega (arith, risen .high, held .long)) (risen .outside) small-start
-        (risen .landed (bound (ls .count)) (λ n l h i. held .inside n l (omega (arith, held .long)) i)));
+    shift-small = omega (
+      arith,
+      shift-small K laws (length old) old (is-labelled ls) qs (K .plus (held .shift) (risen .by)) more large (bound (ls .count) + 1000000) (risen .node) (risen .low) (omega (arith, risen .high, held .long)) (risen .outside) small-start
+          (risen .landed (bound (ls .count)) (λ n l h i. held .inside n l (omega (arith, held .long)) i)),
+    );
     inside = λ n l h i. subst (λ z. K .size z ≤ bound (ls .count)) (sym (raised-inside K laws (length old) old (is-labelled ls) ps qs (risen .by) raised n l h i)) (held .inside n l h i);
   }
     where
@@ -122,9 +125,9 @@ pub higher-both : {C : Type 0} (K : Kind C) (arcs : List (Arc C)) (flow : List �
 higher-both K arcs flow ps qs rs h k =
     each-from (λ a f. kilter-number K (reduced K rs a) a f ≤ kilter-number K (reduced K ps a) a f) arcs flow (each-long (λ a f. kilter-number K (reduced K qs a) a f ≤ kilter-number K (reduced K ps a) a f) arcs flow h)
     (λ i a f is at.
-        let x = each-at (λ a f. kilter-number K (reduced K qs a) a f ≤ kilter-number K (reduced K ps a) a f) arcs flow i a f h is at in
-        let y = each-at (λ a f. kilter-number K (reduced K rs a) a f ≤ kilter-number K (reduced K qs a) a f) arcs flow i a f k is at in
-        meet (kilter-number K (reduced K rs a) a f) (kilter-number K (reduced K qs a) a f) (kilter-number K (reduced K ps a) a f) y x)
+    let x = each-at (λ a f. kilter-number K (reduced K qs a) a f ≤ kilter-number K (reduced K ps a) a f) arcs flow i a f h is at in
+    let y = each-at (λ a f. kilter-number K (reduced K rs a) a f ≤ kilter-number K (reduced K qs a) a f) arcs flow i a f k is at in
+    meet (kilter-number K (reduced K rs a) a f) (kilter-number K (reduced K qs a) a f) (kilter-number K (reduced K ps a) a f) y x)
   where
     meet : (a b c : ℕ) → a ≤ b → b ≤ c → a ≤ c
     meet a b c h k = omega arith
@@ -165,11 +168,11 @@ module _ {C : Type 0} (K : Kind C) (laws : Laws K) (arcs : List (Arc C)) (flow :
       rounding-advanced done =
           let (good, wanted, more) = done .ends in
           record {
-        held = held-grown K laws old tame qs ls ms (held-after round.Labelled done) (whole ps ls refl (before .good)) (whole qs ms (done .long) good) (done .grown);
-        eased = higher-both K arcs flow old ps qs (before .eased) (done .eased);
-        good = good;
-        wanted = wanted;
-      }
+            held = held-grown K laws old tame qs ls ms (held-after round.Labelled done) (whole ps ls refl (before .good)) (whole qs ms (done .long) good) (done .grown);
+            eased = higher-both K arcs flow old ps qs (before .eased) (done .eased);
+            good = good;
+            wanted = wanted;
+          }
 
       -- the rounds are over
       pub repriced-after : (r : Round) → Advanced K arcs flow ps qs chosen ls ms r → Repriced K arcs flow old qs

@@ -21,7 +21,8 @@ use Rattle.labels.specs.declared.labelling.Labels.{Labels}
 use Rattle.labels.specs.Moves.{may}
 use Rattle.flows.proofs.ArcSums.{same-at}
 use Rattle.reach.specs.declared.scans.Best.{Best}
-use Rattle.reach.specs.Scans.{crossing-at, slack-at, nearer-of, At-most, Across, Best-is, Seen}
+use Rattle.reach.specs.declared.scans.Scan.the-variants.{Open, Shut}
+use Rattle.reach.specs.Scans.{crossing-at, slack-at, nearer-of, best-of, sight-of, At-most, Across, Best-is, Seen, Scanned}
 
 module _ {C : Type 0} (K : Kind C) (laws : Laws K) (arcs : List (Arc C)) (flow : List ℤ) (prices : List C) (chosen : ℕ) (ls : Labels) where
   pub seen-more : (n : ℕ) (best new : Option (Best C)) → Seen K arcs flow prices chosen ls n best → ((s : C) → At-most K best s → At-most K new s) →
@@ -86,3 +87,15 @@ module _ {C : Type 0} (K : Kind C) (laws : Laws K) (arcs : List (Arc C)) (flow :
               go : (v : Bool) → Best-is K arcs flow prices chosen ls (Some (cond v d b))
               go true = h
               go false = mine
+
+    -- whatever it makes of the best
+    pub sighted : (along : Bool) → Some along ≡ crossing-at ls a → (n ≡ chosen → ⊥) → Scanned K arcs flow prices chosen ls (n + 1) (sight-of K (reduced K prices a) a along (getD flow n (pos 0)) n best)
+    sighted along way other = go (may K prices a along (getD flow n (pos 0))) refl
+      where
+        rest : (o : Option C) → o ≡ slack-at K (reduced K prices a) a along (getD flow n (pos 0)) → may K prices a along (getD flow n (pos 0)) ≡ false → Seen K arcs flow prices chosen ls (n + 1) (best-of K o n along best)
+        rest None e q = seen-free along way q e
+        rest (Some s) e q = seen-slack along way q s (record { slack = s; arc = n; along = along }) other e refl (nearer-of K best (record { slack = s; arc = n; along = along })) refl
+
+        go : (t : Bool) → may K prices a along (getD flow n (pos 0)) ≡ t → Scanned K arcs flow prices chosen ls (n + 1) (cond t (Open n along) (Shut (best-of K (slack-at K (reduced K prices a) a along (getD flow n (pos 0))) n along best)))
+        go true q = (a, record { other = other; is = is; leads = sym way }, q)
+        go false q = rest (slack-at K (reduced K prices a) a along (getD flow n (pos 0))) refl q

@@ -15,7 +15,7 @@ use Rattle.networks.specs.Nets.{Is-at}
 use Rattle.networks.specs.declared.network.Arc.{Arc}
 use Rattle.labels.specs.declared.labelling.Labels.{Labels}
 use Rattle.flows.specs.Laps.{near, far}
-use Rattle.labels.specs.Moves.{may}
+use Rattle.labels.specs.Moves.{may, may-at}
 use Rattle.labels.specs.Good.{place-of}
 use Rattle.reach.specs.declared.scans.Best.{Best}
 use Rattle.reach.specs.declared.scans.Scan.{Scan}
@@ -35,6 +35,15 @@ slack-at K c a along f = cond along (cond (K .le c (K .zero)) None (cond (ltZ f 
 abbrev pub nearer-of : {C : Type 0} → Kind C → Option (Best C) → Best C → Best C
 nearer-of K None b = b
 nearer-of K (Some d) b = cond (K .le (d .slack) (b .slack)) d b
+
+-- the best with a slack of arc i, or with none
+abbrev pub best-of : {C : Type 0} → Kind C → Option C → ℕ → Bool → Option (Best C) → Option (Best C)
+best-of K None i along best = best
+best-of K (Some s) i along best = Some (nearer-of K best (record { slack = s; arc = i; along = along }))
+
+-- what arc i, which leads across that way with reduced cost c, makes of the best so far
+abbrev pub sight-of : {C : Type 0} → Kind C → C → Arc C → Bool → ℤ → ℕ → Option (Best C) → Scan C
+sight-of K c a along f i best = cond (may-at K c a along f) (Open i along) (Shut (best-of K (slack-at K c a along f) i along best))
 
 abbrev pub At-most : {C : Type 0} → Kind C → Option (Best C) → C → Type 0
 At-most K None s = ⊥

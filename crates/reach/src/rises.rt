@@ -8,9 +8,9 @@ ghost use Rattle.flows.specs.Fits.{Fitting, Bounded, price-limit, change-limit}
 ghost use Rattle.flows.specs.Prices.{Raised};
 ghost use Rattle.reach.specs.Scans.{is-labelled};
 ghost use Rattle.reach.specs.Rises.{own-limit-at, next-of, Next-is};
-use costs::CostKind;
 use crate::scans::Best;
 use crate::scans::BestClone;
+use costs::CostKind;
 use flows::Step;
 use flows::opposite;
 use flows::reduced;
@@ -57,15 +57,19 @@ fn lesser<C: CostKind>(own: Option<C>, best: Option<Best<C>>) -> Rise<C>
     ensures { λ r. ⌜ r ≡ next-of (C·CostKind .kind) own best ⌝ }
 {
     let Some(b) = best else {
-        let Some(c) = own else {
-            return Rise::Unlimited;
+        return match own {
+            Some(c) => Rise::Kilter(c),
+            None => Rise::Unlimited,
         };
-        return Rise::Kilter(c);
     };
     let Some(c) = own else {
         return Rise::Label(b);
     };
-    if c.at_most(b.slack) { Rise::Kilter(c) } else { Rise::Label(b) }
+    if c.at_most(b.slack) {
+        Rise::Kilter(c)
+    } else {
+        Rise::Label(b)
+    }
 }
 
 // How far prices rise next, with the least slack at hand.

@@ -9,7 +9,6 @@ ghost use Rattle.labels.specs.Good.{Good, node-at, place-of};
 ghost use Rattle.labels.specs.Ways.{Chosen};
 ghost use Rattle.reach.specs.Scans.{Seen};
 ghost use Rattle.reach.specs.Rounds.{large, Repriced, Ends-with, Advanced};
-use costs::CostKind;
 use crate::rises::Rise;
 use crate::rises::next_rise;
 use crate::rises::raise;
@@ -17,6 +16,7 @@ use crate::scans::Best;
 use crate::scans::Scan;
 use crate::scans::link;
 use crate::scans::look_round;
+use costs::CostKind;
 use flows::Step;
 use labels::Labels;
 use labels::label;
@@ -117,6 +117,7 @@ pub fn reach<N: Network>(
     ensures ends { λ r. ⌜ Ends-with (Cost·CostKind .kind) (shown (meaning (now (net .entry)))) (now (flow .entry)) (now (prices .exit)) chosen (now (labels .exit)) r ⌝ }
 {
     let mut start = 0;
+    // Each round labels one node more, so that the rounds end.
     'rounds: loop {
         if label(net, flow, prices, chosen.arc, chosen.node, start, labels) {
             return Ending::Reached;

@@ -8,7 +8,7 @@ ghost use Rattle.networks.specs.Nets.{shown};
 ghost use Rattle.flows.specs.Flows.{Ends};
 ghost use Rattle.flows.specs.Fits.{Fitting, Bounded, price-limit};
 ghost use Rattle.labels.specs.Good.{Good, Grown};
-ghost use Rattle.reach.specs.Scans.{Ripe, crossing-at, slack-at, nearer-of, Seen, Scanned};
+ghost use Rattle.reach.specs.Scans.{Ripe, crossing-at, slack-at, nearer-of, sight-of, Seen, Scanned};
 use costs::CostKind;
 use flows::Step;
 use flows::opposite;
@@ -78,6 +78,34 @@ fn nearer<C: CostKind>(best: Option<Best<C>>, b: Best<C>) -> Best<C>
     if d.slack.at_most(b.slack) { d } else { b }
 }
 
+// What arc i, which leads across that way, makes of the best so far.
+fn sight<C: CostKind>(
+    arc: Arc<C>,
+    c: C,
+    along: bool,
+    f: i32,
+    i: usize,
+    best: Option<Best<C>>,
+) -> Scan<C>
+    requires { ⌜ C·CostKind .kind .size c ≤ 4000000000000000 ⌝ }
+    ensures { λ r. ⌜ r ≡ sight-of (C·CostKind .kind) c arc along f i best ⌝ }
+{
+    if may(arc, c, along, f) {
+        return Scan::Open(i, along);
+    }
+    let Some(slack) = slack(arc, c, along, f) else {
+        return Scan::Shut(best);
+    };
+    Scan::Shut(Some(nearer(
+        best,
+        Best {
+            slack,
+            arc: i,
+            along,
+        },
+    )))
+}
+
 // Looks at the arc after i.
 fn look<N: Network>(
     net: &N,
@@ -106,13 +134,7 @@ fn look<N: Network>(
         return Scan::Shut(best);
     };
     let c = reduced(arc, prices);
-    if may(arc, c, along, flow[i]) {
-        return Scan::Open(i, along);
-    }
-    let Some(slack) = slack(arc, c, along, flow[i]) else {
-        return Scan::Shut(best);
-    };
-    Scan::Shut(Some(nearer(best, Best { slack, arc: i, along })))
+    sight(arc, c, along, flow[i], i, best)
 }
 
 // Looks at every arc between the labelled nodes and the others.
@@ -165,6 +187,10 @@ pub fn link<N: Network>(
     let near = far_end(arc, !along);
     let node = far_end(arc, along);
     let parent = labels.places[near - 1] - 1;
-    let step = Step { node: near, arc: i, along };
+    let step = Step {
+        node: near,
+        arc: i,
+        along,
+    };
     push(labels, Entry { node, parent, step });
 }

@@ -81,7 +81,14 @@ fn wanted<N: Network>(net: &N, flow: &[i32], prices: &[N::Cost], i: usize) -> Op
     };
     let source = far_end(arc, along);
     let node = far_end(arc, !along);
-    Some(Choice { step: Step { node, arc: i, along }, source })
+    Some(Choice {
+        step: Step {
+            node,
+            arc: i,
+            along,
+        },
+        source,
+    })
 }
 
 // The mark of a node by its place among the labelled: 1 inside, 0 outside.

@@ -16,7 +16,11 @@ impl Drop for Restore<'_> {
         requires { ⌜ length (now (self .flow)) ≤ 1024 ⌝ }
         ensures { λ _. ⌜ now (self .exit .0) ≡ cond (self .entry .committed) (now (self .entry .flow)) (take (length (now (self .entry .flow))) (self .entry .saved)) ⌝ }
     {
-        let Restore { flow, saved, committed } = self;
+        let Restore {
+            flow,
+            saved,
+            committed,
+        } = self;
         if !committed {
             put_back(flow, &saved);
         }

@@ -14,11 +14,11 @@ ghost use Rattle.flows.specs.Stops.{first-stop};
 ghost use Rattle.costs.specs.Kinds.{sums};
 ghost use Rattle.search.specs.Going.{Going, Ended};
 ghost use Rattle.search.specs.Settling.{read-price-as, tables, Settled};
-use costs::CostKind;
 use crate::guard::Restore;
 use crate::guard::save;
 use crate::seek::End;
 use crate::seek::seek;
+use costs::CostKind;
 use flows::first_stop;
 use flows::total;
 use networks::Network;
@@ -92,7 +92,10 @@ fn search<N: Network>(
     ensures total { λ r. ⌜ r .total ≡ total-of (sums (Cost·CostKind .kind)) (shown (meaning (now (net .entry)))) (now (flow .exit)) ⌝ }
 {
     let end = seek(net, flow, prices, marks, budget);
-    Found { end, total: total(net, flow) }
+    Found {
+        end,
+        total: total(net, flow),
+    }
 }
 
 // Searches for a least-cost flow with the imbalances of the flow found, by at most that many laps.
@@ -114,7 +117,11 @@ pub fn settle<N: Network>(
     read_prices(prices, most);
     clear(marks);
     let saved = save(flow);
-    let mut guard = Restore { flow, saved, committed: false };
+    let mut guard = Restore {
+        flow,
+        saved,
+        committed: false,
+    };
     let found = search(net, guard.flow, prices, marks, budget);
     tidy(net, prices);
     match found.end {
@@ -125,7 +132,10 @@ pub fn settle<N: Network>(
         }
         End::Kilter(laps) => {
             guard.committed = true;
-            Ok(Answer::Least { total: found.total, laps })
+            Ok(Answer::Least {
+                total: found.total,
+                laps,
+            })
         }
     }
 }

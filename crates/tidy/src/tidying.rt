@@ -9,8 +9,8 @@ ghost use Rattle.std.specs.declared.option.Option.the-variants.{None};
 ghost use Rattle.networks.specs.Nets.{shown};
 ghost use Rattle.flows.specs.Fits.{Fit, Fitting, Bounded, price-limit, change-limit, found-limit};
 ghost use Rattle.tidy.specs.Picks.{unmarked, Raised, Tidied};
-use costs::CostKind;
 use crate::picks::next_pick;
+use costs::CostKind;
 use flows::sum;
 use networks::Network;
 

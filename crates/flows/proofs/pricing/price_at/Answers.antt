@@ -13,6 +13,6 @@ returns g c =
     let i = c .args .node - 1 in
     let inside : i < length prices = omega arith in
     record {
-  value = getD-read prices i (c .index-prices-node .result) inside (c .index-prices-node .is) (K .zero);
-  small = read-size K price-limit prices i (c .index-prices-node .result) (c .pre .moderate) inside (c .index-prices-node .is);
-}
+      value = getD-read prices i (c .index-prices-node .result) inside (c .index-prices-node .is) (K .zero);
+      small = read-size K price-limit prices i (c .index-prices-node .result) (c .pre .moderate) inside (c .index-prices-node .is);
+    }

@@ -33,8 +33,10 @@ loop-i-again g c =
     let q = simp toZ-ofZ at (c .part-in-loop-i .ensures .value) in
     let v = simp toZ-ofZ at (c .balanced-sum .ensures .value) in
     let d = c .balanced-sum .ensures .bound in
-    simp toZ-ofZ (omega (arith, c .loop-i .inv .0, d),
-     balance-more i (c .args .node) (shown n) flow (c .in-Some .arc) (getD flow i (pos 0)) _ (c .balanced-sum .result) (c .part .result) (c .part-in-loop-i .result) (arc-first n i (c .in-Some .arc) (c .in-Some .ensures tt)) (drop-more flow i (pos 0) (omega arith)) v p q ∙ c .loop-i .inv .1)
+    simp toZ-ofZ (
+      omega (arith, c .loop-i .inv .0, d),
+      balance-more i (c .args .node) (shown n) flow (c .in-Some .arc) (getD flow i (pos 0)) _ (c .balanced-sum .result) (c .part .result) (c .part-in-loop-i .result) (arc-first n i (c .in-Some .arc) (c .in-Some .ensures tt)) (drop-more flow i (pos 0) (omega arith)) v p q ∙ c .loop-i .inv .1,
+    )
 
 pub returns : need.returns
 returns g c =

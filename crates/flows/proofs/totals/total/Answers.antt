@@ -40,10 +40,11 @@ loop-i-again g c =
     let n = g .N·Network .meaning (c .args .net .now) in
     let flow = c .args .flow .now in
     let i = c .loop-i .i in
-    let f : SFits w32 (getD flow i (pos 0)) = search needs in
-    (omega (arith, c .loop-i .inv .0, c .multiple .ensures .small, c .sum-all .ensures .small),
-     total-more K (g .Cost·CostKind·met .lawful) i (shown n) flow (c .in-Some .arc) (getD flow i (pos 0)) (c .loop-i .all) (c .multiple .result) (c .sum-all .result)
-     (arc-first n i (c .in-Some .arc) (c .in-Some .ensures tt)) (drop-more flow i (pos 0) (omega arith)) (simp toZ-ofZ at (c .multiple .ensures .value)) (c .sum-all .ensures .value) ∙ c .loop-i .inv .1)
+    let f : SFits w32 (getD flow i (pos 0)) = search needs in (
+      omega (arith, c .loop-i .inv .0, c .multiple .ensures .small, c .sum-all .ensures .small),
+      total-more K (g .Cost·CostKind·met .lawful) i (shown n) flow (c .in-Some .arc) (getD flow i (pos 0)) (c .loop-i .all) (c .multiple .result) (c .sum-all .result)
+          (arc-first n i (c .in-Some .arc) (c .in-Some .ensures tt)) (drop-more flow i (pos 0) (omega arith)) (simp toZ-ofZ at (c .multiple .ensures .value)) (c .sum-all .ensures .value) ∙ c .loop-i .inv .1,
+    )
 
 pub returns : need.returns
 returns g c =

@@ -65,10 +65,10 @@ push-requires g c κs =
     let moves = ap (λ z. may-at K z a along (getD flow i (pos 0))) (sym (c .reduced .ensures .value)) ∙ sym (simp toZ-ofZ at (c .if-not-may .ensures tt)) in
     let e = c .far-end-far .ensures in
     record {
-  room = new-room K arcs flow prices (c .args .chosen) (c .pre .few) ls (c .pre .good) (c .args .at) i (c .pre .place) (c .if-i-chosen .left) a is fit along (out .0) (out .1) moves;
-  low = subst (λ z. 1 ≤ z) (sym e) (new-low K arcs flow prices (c .args .chosen) (c .pre .few) ls (c .pre .good) (c .args .at) i (c .pre .place) (c .if-i-chosen .left) a is fit along (out .0) (out .1) moves);
-  high = subst (λ z. z ≤ 256) (sym e) (new-high K arcs flow prices (c .args .chosen) (c .pre .few) ls (c .pre .good) (c .args .at) i (c .pre .place) (c .if-i-chosen .left) a is fit along (out .0) (out .1) moves);
-}
+      room = new-room K arcs flow prices (c .args .chosen) (c .pre .few) ls (c .pre .good) (c .args .at) i (c .pre .place) (c .if-i-chosen .left) a is fit along (out .0) (out .1) moves;
+      low = subst (λ z. 1 ≤ z) (sym e) (new-low K arcs flow prices (c .args .chosen) (c .pre .few) ls (c .pre .good) (c .args .at) i (c .pre .place) (c .if-i-chosen .left) a is fit along (out .0) (out .1) moves);
+      high = subst (λ z. z ≤ 256) (sym e) (new-high K arcs flow prices (c .args .chosen) (c .pre .few) ls (c .pre .good) (c .args .at) i (c .pre .place) (c .if-i-chosen .left) a is fit along (out .0) (out .1) moves);
+    }
 
 pub returns : need.returns
 returns g c =
@@ -87,8 +87,8 @@ returns g c =
     let out = outward-is a (node-at ls (c .args .at)) ls along (c .in-Some-outward .ensures tt) in
     let moves = ap (λ z. may-at K z a along (getD flow i (pos 0))) (sym (c .reduced .ensures .value)) ∙ sym (simp toZ-ofZ at (c .if-not-may .ensures tt)) in
     let made : c .push .last .labels ≡ pushed ls (record { node = far a along; parent = c .args .at; step = record { node = node-at ls (c .args .at); arc = i; along = along } }) =
-        c .push .ensures ∙ ap (λ (z : ℕ). pushed ls (record { node = z; parent = c .args .at; step = record { node = node-at ls (c .args .at); arc = i; along = along } })) (c .far-end-far .ensures) in
+    c .push .ensures ∙ ap (λ (z : ℕ). pushed ls (record { node = z; parent = c .args .at; step = record { node = node-at ls (c .args .at); arc = i; along = along } })) (c .far-end-far .ensures) in
     record {
-  good = subst (Good K arcs flow prices (c .args .chosen)) (sym made) (new-good K arcs flow prices (c .args .chosen) (c .pre .few) ls (c .pre .good) (c .args .at) i (c .pre .place) (c .if-i-chosen .left) a is fit along (out .0) (out .1) moves);
-  grown = subst (Grown ls) (sym made) (new-grown K arcs flow prices (c .args .chosen) (c .pre .few) ls (c .pre .good) (c .args .at) i (c .pre .place) (c .if-i-chosen .left) a is fit along (out .0) (out .1) moves);
-}
+      good = subst (Good K arcs flow prices (c .args .chosen)) (sym made) (new-good K arcs flow prices (c .args .chosen) (c .pre .few) ls (c .pre .good) (c .args .at) i (c .pre .place) (c .if-i-chosen .left) a is fit along (out .0) (out .1) moves);
+      grown = subst (Grown ls) (sym made) (new-grown K arcs flow prices (c .args .chosen) (c .pre .few) ls (c .pre .good) (c .args .at) i (c .pre .place) (c .if-i-chosen .left) a is fit along (out .0) (out .1) moves);
+    }

@@ -23,14 +23,14 @@ extend-requires g c κs =
     let more = c .loop-i .inv .1 .more in
     let arcs : c .loop-i .i < length (c .args .flow .now) = omega (arith, c .arcs-arcs .ensures, c .pre .long, length-shown n) in
     record {
-  fitting = c .pre .fitting;
-  moderate = c .pre .moderate;
-  few = c .pre .few;
-  long = c .pre .long;
-  good = c .loop-i .inv .0;
-  arc = arcs;
-  place = omega (arith, more);
-}
+      fitting = c .pre .fitting;
+      moderate = c .pre .moderate;
+      few = c .pre .few;
+      long = c .pre .long;
+      good = c .loop-i .inv .0;
+      arc = arcs;
+      place = omega (arith, more);
+    }
 
 pub loop-i-again : need.loop-i-again
 loop-i-again g c = (c .extend .ensures .good, grown-both (c .labelling .labels) (c .loop-i .labels) (c .extend .last .labels) (c .loop-i .inv .1) (c .extend .ensures .grown))
@@ -45,10 +45,11 @@ returns g c =
     let ls = c .args .labels .now in
     let Ended : Labels → Type 0 = λ ms. Good K arcs (c .args .flow .now) (c .args .prices .now) (c .args .chosen) ms × Grown ls ms in
     let ended : Ended (c .labelling-test .labels) =
-        elim (c .labelling-test .came) [
-          else-labelling-test w ↦ subst Ended (sym (w .labels-is)) (c .labelling .inv .0, c .labelling .inv .1)
-        | then-labelling-test·then-loop-i-test·then-labels-sought-gt0 w ↦ subst Ended (sym (w .labels-is)) (
-            w .extend .ensures .good,
-            grown-both ls (c .labelling .labels) (w .extend .last .labels) (c .labelling .inv .1) (grown-both (c .labelling .labels) (w .loop-i .labels) (w .extend .last .labels) (w .loop-i .inv .1) (w .extend .ensures .grown)))
-        ] in
+    elim (c .labelling-test .came) [
+      | else-labelling-test w ↦ subst Ended (sym (w .labels-is)) (c .labelling .inv .0, c .labelling .inv .1)
+      | then-labelling-test·then-loop-i-test·then-labels-sought-gt0 w ↦ subst Ended (sym (w .labels-is)) (
+        w .extend .ensures .good,
+        grown-both ls (c .labelling .labels) (w .extend .last .labels) (c .labelling .inv .1) (grown-both (c .labelling .labels) (w .loop-i .labels) (w .extend .last .labels) (w .loop-i .inv .1) (w .extend .ensures .grown)),
+      )
+    ] in
     record { good = ended .0; grown = ended .1; found = refl }

@@ -36,13 +36,13 @@ least-room-amount-requires g c κs =
     let steps = c .trace-start .last .steps in
     let e = part steps r s (c .trace-start .array-long) (c .trace-start .ensures .first) in
     record {
-  fitting = c .pre .fitting;
-  moderate = c .pre .moderate;
-  long = c .pre .long;
-  small = c .pre .small;
-  moving = subst (All (Moving K arcs (c .args .flow .now) (c .args .prices .now))) (sym e)
-      (all-moving K (g .Cost·CostKind·met .lawful) arcs (c .args .flow .now) (c .args .prices .now) (c .pre .fitting) s ls (c .pre .good) (place-of ls (s .node) - 1) (omega (arith, h .0, c .pre .reached)) (h .1) (drop (r + 1) steps) (c .trace-start .ensures .rest) (c .pre .long) (c .pre .small) (c .pre .chosen));
-}
+      fitting = c .pre .fitting;
+      moderate = c .pre .moderate;
+      long = c .pre .long;
+      small = c .pre .small;
+      moving = subst (All (Moving K arcs (c .args .flow .now) (c .args .prices .now))) (sym e)
+          (all-moving K (g .Cost·CostKind·met .lawful) arcs (c .args .flow .now) (c .args .prices .now) (c .pre .fitting) s ls (c .pre .good) (place-of ls (s .node) - 1) (omega (arith, h .0, c .pre .reached)) (h .1) (drop (r + 1) steps) (c .trace-start .ensures .rest) (c .pre .long) (c .pre .small) (c .pre .chosen));
+    }
 
 pub send-requires : need.send-requires
 send-requires g c κs =

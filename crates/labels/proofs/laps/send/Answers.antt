@@ -27,9 +27,10 @@ loop-step-again c =
     let x = toZ w32 (ofZ w32 (c .args .amount)) in
     let steps = c .args .steps .now in
     let i = c .loop-step .step-index in
-    let h = steady-here x steps i none (c .loop-step .flow) (c .loop-step-test .taken) (c .loop-step .inv .0) in
-    (subst (Steady x (drop (i + 1) steps)) (sym (c .shift .ensures)) (h .2),
-     ap (sent x (drop (i + 1) steps)) (c .shift .ensures) ∙ sym (sent-here x steps i none (c .loop-step .flow) (c .loop-step-test .taken)) ∙ c .loop-step .inv .1)
+    let h = steady-here x steps i none (c .loop-step .flow) (c .loop-step-test .taken) (c .loop-step .inv .0) in (
+      subst (Steady x (drop (i + 1) steps)) (sym (c .shift .ensures)) (h .2),
+      ap (sent x (drop (i + 1) steps)) (c .shift .ensures) ∙ sym (sent-here x steps i none (c .loop-step .flow) (c .loop-step-test .taken)) ∙ c .loop-step .inv .1,
+    )
 
 pub returns : need.returns
 returns c =

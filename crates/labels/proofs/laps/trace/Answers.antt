@@ -21,11 +21,14 @@ loop-k-again c =
     let e = entry-at ls k in
     let less : e .parent < k = c .pre .back k (omega arith) (c .loop-k .inv .0) in
     let next : j - 1 + 1 ≡ j = omega (arith, c .loop-k .inv .1) in
-    let spot : j - 1 < length (c .loop-k .steps) = omega (arith, c .loop-k .inv .1, c .loop-k .inv .2, c .loop-k .inv .3) in
-    (omega (arith, c .loop-k .inv .0), omega (arith, c .loop-k .inv .1), omega (arith, c .loop-k .inv .2),
-     length-set (c .loop-k .steps) (j - 1) (e .step) ∙ c .loop-k .inv .3,
-     subst (λ z. Way ls (e .parent) z (c .args .place)) (sym (drop-set (c .loop-k .steps) (j - 1) (e .step) spot))
-     (k, omega arith, c .loop-k .inv .0, refl, refl, subst (λ z. Way ls k (drop z (c .loop-k .steps)) (c .args .place)) (sym next) (c .loop-k .inv .4)))
+    let spot : j - 1 < length (c .loop-k .steps) = omega (arith, c .loop-k .inv .1, c .loop-k .inv .2, c .loop-k .inv .3) in (
+      omega (arith, c .loop-k .inv .0),
+      omega (arith, c .loop-k .inv .1),
+      omega (arith, c .loop-k .inv .2),
+      length-set (c .loop-k .steps) (j - 1) (e .step) ∙ c .loop-k .inv .3,
+      subst (λ z. Way ls (e .parent) z (c .args .place)) (sym (drop-set (c .loop-k .steps) (j - 1) (e .step) spot))
+          (k, omega arith, c .loop-k .inv .0, refl, refl, subst (λ z. Way ls k (drop z (c .loop-k .steps)) (c .args .place)) (sym next) (c .loop-k .inv .4)),
+    )
 
 pub returns : need.returns
 returns c =
@@ -35,7 +38,7 @@ returns c =
     let zero : c .loop-k .k ≡ 0 = omega arith in
     let same = drop-set-lt (j - 1 + 1) (c .loop-k .steps) (j - 1) (c .args .chosen) (omega arith) in
     record {
-  start = omega (arith, c .loop-k .inv .1, c .loop-k .inv .2);
-  first = drop-set (c .loop-k .steps) (j - 1) (c .args .chosen) spot ∙ ap (λ z. c .args .chosen ∷ z) (sym same);
-  rest = subst (λ z. Way (c .args .labels .now) 0 z (c .args .place)) (sym (same ∙ ap (λ z. drop z (c .loop-k .steps)) next)) (subst (λ z. Way (c .args .labels .now) z (drop j (c .loop-k .steps)) (c .args .place)) zero (c .loop-k .inv .4));
-}
+      start = omega (arith, c .loop-k .inv .1, c .loop-k .inv .2);
+      first = drop-set (c .loop-k .steps) (j - 1) (c .args .chosen) spot ∙ ap (λ z. c .args .chosen ∷ z) (sym same);
+      rest = subst (λ z. Way (c .args .labels .now) 0 z (c .args .place)) (sym (same ∙ ap (λ z. drop z (c .loop-k .steps)) next)) (subst (λ z. Way (c .args .labels .now) z (drop j (c .loop-k .steps)) (c .args .place)) zero (c .loop-k .inv .4));
+    }

@@ -27,13 +27,13 @@ link-requires g c κs =
     let same = c .raise-in-Label .kept .prices in
     let raised = c .raise-in-Label .ensures in
     record {
-  fitting = label-fitting (g .Cost·CostKind .kind) (g .Cost·CostKind·met .lawful) (shown (g .N·Network .meaning (c .args .net .now))) (c .args .flow .now) (c .args .prices .now) (c .args .chosen) (c .args .labels .now) (c .pre .fitting) (c .pre .moderate) (c .pre .long) (c .pre .good) (c .pre .chosen) (c .pre .sought) (c .args .best) (c .pre .seen) b next qs same raised;
-  few = omega (arith, same, c .pre .few);
-  long = c .pre .long;
-  short = label-short (g .Cost·CostKind .kind) (g .Cost·CostKind·met .lawful) (shown (g .N·Network .meaning (c .args .net .now))) (c .args .flow .now) (c .args .prices .now) (c .args .chosen) (c .args .labels .now) (c .pre .fitting) (c .pre .moderate) (c .pre .long) (c .pre .good) (c .pre .chosen) (c .pre .sought) (c .args .best) (c .pre .seen) b next;
-  good = label-good (g .Cost·CostKind .kind) (g .Cost·CostKind·met .lawful) (shown (g .N·Network .meaning (c .args .net .now))) (c .args .flow .now) (c .args .prices .now) (c .args .chosen) (c .args .labels .now) (c .pre .fitting) (c .pre .moderate) (c .pre .long) (c .pre .good) (c .pre .chosen) (c .pre .sought) (c .args .best) (c .pre .seen) b next qs same raised;
-  ripe = label-ripe (g .Cost·CostKind .kind) (g .Cost·CostKind·met .lawful) (shown (g .N·Network .meaning (c .args .net .now))) (c .args .flow .now) (c .args .prices .now) (c .args .chosen) (c .args .labels .now) (c .pre .fitting) (c .pre .moderate) (c .pre .long) (c .pre .good) (c .pre .chosen) (c .pre .sought) (c .args .best) (c .pre .seen) b next qs same raised;
-}
+      fitting = label-fitting (g .Cost·CostKind .kind) (g .Cost·CostKind·met .lawful) (shown (g .N·Network .meaning (c .args .net .now))) (c .args .flow .now) (c .args .prices .now) (c .args .chosen) (c .args .labels .now) (c .pre .fitting) (c .pre .moderate) (c .pre .long) (c .pre .good) (c .pre .chosen) (c .pre .sought) (c .args .best) (c .pre .seen) b next qs same raised;
+      few = omega (arith, same, c .pre .few);
+      long = c .pre .long;
+      short = label-short (g .Cost·CostKind .kind) (g .Cost·CostKind·met .lawful) (shown (g .N·Network .meaning (c .args .net .now))) (c .args .flow .now) (c .args .prices .now) (c .args .chosen) (c .args .labels .now) (c .pre .fitting) (c .pre .moderate) (c .pre .long) (c .pre .good) (c .pre .chosen) (c .pre .sought) (c .args .best) (c .pre .seen) b next;
+      good = label-good (g .Cost·CostKind .kind) (g .Cost·CostKind·met .lawful) (shown (g .N·Network .meaning (c .args .net .now))) (c .args .flow .now) (c .args .prices .now) (c .args .chosen) (c .args .labels .now) (c .pre .fitting) (c .pre .moderate) (c .pre .long) (c .pre .good) (c .pre .chosen) (c .pre .sought) (c .args .best) (c .pre .seen) b next qs same raised;
+      ripe = label-ripe (g .Cost·CostKind .kind) (g .Cost·CostKind·met .lawful) (shown (g .N·Network .meaning (c .args .net .now))) (c .args .flow .now) (c .args .prices .now) (c .args .chosen) (c .args .labels .now) (c .pre .fitting) (c .pre .moderate) (c .pre .long) (c .pre .good) (c .pre .chosen) (c .pre .sought) (c .args .best) (c .pre .seen) b next qs same raised;
+    }
 
 pub returns-in-Unlimited : need.returns-in-Unlimited
 returns-in-Unlimited g c = cut-done (g .Cost·CostKind .kind) (g .Cost·CostKind·met .lawful) (shown (g .N·Network .meaning (c .args .net .now))) (c .args .flow .now) (c .args .prices .now) (c .args .chosen) (c .args .labels .now) (c .pre .fitting) (c .pre .moderate) (c .pre .long) (c .pre .good) (c .pre .chosen) (c .pre .sought) (c .args .best) (c .pre .seen) (c .in-Unlimited .ensures tt)

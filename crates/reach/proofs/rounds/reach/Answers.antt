@@ -19,39 +19,39 @@ pub label-requires : need.label-requires
 label-requires g c κs =
     let same = c .rounds .inv .held .long in
     record {
-  fitting = subst (λ n. Fitting (g .Cost·CostKind .kind) n (shown (g .N·Network .meaning (c .args .net .now)))) (sym same) (c .pre .fitting);
-  moderate = λ k h. omega (arith, rounding-small (g .Cost·CostKind .kind) (g .Cost·CostKind·met .lawful) (shown (g .N·Network .meaning (c .args .net .now))) (c .args .flow .now) (c .args .prices .now) (c .pre .tame) (c .args .chosen) (c .rounds .prices) (c .rounds .labels) (c .rounds .inv) k h);
-  few = omega (arith, same, c .pre .few);
-  long = c .pre .long;
-  good = c .rounds .inv .good;
-  node = (c .pre .node .0, omega (arith, same, c .pre .node .1));
-}
+      fitting = subst (λ n. Fitting (g .Cost·CostKind .kind) n (shown (g .N·Network .meaning (c .args .net .now)))) (sym same) (c .pre .fitting);
+      moderate = λ k h. omega (arith, rounding-small (g .Cost·CostKind .kind) (g .Cost·CostKind·met .lawful) (shown (g .N·Network .meaning (c .args .net .now))) (c .args .flow .now) (c .args .prices .now) (c .pre .tame) (c .args .chosen) (c .rounds .prices) (c .rounds .labels) (c .rounds .inv) k h);
+      few = omega (arith, same, c .pre .few);
+      long = c .pre .long;
+      good = c .rounds .inv .good;
+      node = (c .pre .node .0, omega (arith, same, c .pre .node .1));
+    }
 
 pub returns-then-label : need.returns-then-label
 returns-then-label g c =
     let now = rounding-labelled (g .Cost·CostKind .kind) (g .Cost·CostKind·met .lawful) (shown (g .N·Network .meaning (c .args .net .now))) (c .args .flow .now) (c .args .prices .now) (c .pre .tame) (c .args .chosen) (c .rounds .prices) (c .rounds .labels) (c .rounds .inv) (c .label .last .labels) (c .label .ensures .good) (c .label .ensures .grown) in
     record {
-  prices = repriced-here (g .Cost·CostKind .kind) (g .Cost·CostKind·met .lawful) (shown (g .N·Network .meaning (c .args .net .now))) (c .args .flow .now) (c .args .prices .now) (c .pre .tame) (c .args .chosen) (c .rounds .prices) (c .label .last .labels) now;
-  ends = record {
-    good = now .good;
-    reached = ltb-true 0 (place-of (c .label .last .labels) (c .args .chosen .node)) (sym (c .label .ensures .found) ∙ c .if-label .taken);
-    wanted = now .wanted;
-  };
-}
+      prices = repriced-here (g .Cost·CostKind .kind) (g .Cost·CostKind·met .lawful) (shown (g .N·Network .meaning (c .args .net .now))) (c .args .flow .now) (c .args .prices .now) (c .pre .tame) (c .args .chosen) (c .rounds .prices) (c .label .last .labels) now;
+      ends = record {
+        good = now .good;
+        reached = ltb-true 0 (place-of (c .label .last .labels) (c .args .chosen .node)) (sym (c .label .ensures .found) ∙ c .if-label .taken);
+        wanted = now .wanted;
+      };
+    }
 
 pub advance-requires : need.advance-requires
 advance-requires g c κs =
     let now = rounding-labelled (g .Cost·CostKind .kind) (g .Cost·CostKind·met .lawful) (shown (g .N·Network .meaning (c .args .net .now))) (c .args .flow .now) (c .args .prices .now) (c .pre .tame) (c .args .chosen) (c .rounds .prices) (c .rounds .labels) (c .rounds .inv) (c .label .last .labels) (c .label .ensures .good) (c .label .ensures .grown) in
     let same = c .rounds .inv .held .long in
     record {
-  fitting = subst (λ n. Fitting (g .Cost·CostKind .kind) n (shown (g .N·Network .meaning (c .args .net .now)))) (sym same) (c .pre .fitting);
-  moderate = λ k h. omega (arith, rounding-small (g .Cost·CostKind .kind) (g .Cost·CostKind·met .lawful) (shown (g .N·Network .meaning (c .args .net .now))) (c .args .flow .now) (c .args .prices .now) (c .pre .tame) (c .args .chosen) (c .rounds .prices) (c .rounds .labels) (c .rounds .inv) k h);
-  few = omega (arith, same, c .pre .few);
-  long = c .pre .long;
-  good = now .good;
-  chosen = now .wanted;
-  sought = omega (arith, ltb-false 0 (place-of (c .label .last .labels) (c .args .chosen .node)) (sym (c .label .ensures .found) ∙ c .if-label .left));
-}
+      fitting = subst (λ n. Fitting (g .Cost·CostKind .kind) n (shown (g .N·Network .meaning (c .args .net .now)))) (sym same) (c .pre .fitting);
+      moderate = λ k h. omega (arith, rounding-small (g .Cost·CostKind .kind) (g .Cost·CostKind·met .lawful) (shown (g .N·Network .meaning (c .args .net .now))) (c .args .flow .now) (c .args .prices .now) (c .pre .tame) (c .args .chosen) (c .rounds .prices) (c .rounds .labels) (c .rounds .inv) k h);
+      few = omega (arith, same, c .pre .few);
+      long = c .pre .long;
+      good = now .good;
+      chosen = now .wanted;
+      sought = omega (arith, ltb-false 0 (place-of (c .label .last .labels) (c .args .chosen .node)) (sym (c .label .ensures .found) ∙ c .if-label .left));
+    }
 
 pub rounds-again : need.rounds-again
 rounds-again g c =

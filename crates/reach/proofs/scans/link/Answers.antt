@@ -61,10 +61,10 @@ push-requires g c κs =
     let n = c .far-end-near .result in
     let e = c .far-end-node .ensures in
     record {
-  room = new-room K arcs (c .args .flow .now) (c .args .prices .now) (c .args .chosen) (c .pre .few) ls (c .pre .good) (place-of ls n - 1) (c .args .i) (r .place) (c .pre .ripe .1 .other) a is (c .pre .fitting (c .args .i) a is) (c .args .along) (r .here) (r .fresh) (r .moves);
-  low = subst (λ z. 1 ≤ z) (sym e) (new-low K arcs (c .args .flow .now) (c .args .prices .now) (c .args .chosen) (c .pre .few) ls (c .pre .good) (place-of ls n - 1) (c .args .i) (r .place) (c .pre .ripe .1 .other) a is (c .pre .fitting (c .args .i) a is) (c .args .along) (r .here) (r .fresh) (r .moves));
-  high = subst (λ z. z ≤ 256) (sym e) (new-high K arcs (c .args .flow .now) (c .args .prices .now) (c .args .chosen) (c .pre .few) ls (c .pre .good) (place-of ls n - 1) (c .args .i) (r .place) (c .pre .ripe .1 .other) a is (c .pre .fitting (c .args .i) a is) (c .args .along) (r .here) (r .fresh) (r .moves));
-}
+      room = new-room K arcs (c .args .flow .now) (c .args .prices .now) (c .args .chosen) (c .pre .few) ls (c .pre .good) (place-of ls n - 1) (c .args .i) (r .place) (c .pre .ripe .1 .other) a is (c .pre .fitting (c .args .i) a is) (c .args .along) (r .here) (r .fresh) (r .moves);
+      low = subst (λ z. 1 ≤ z) (sym e) (new-low K arcs (c .args .flow .now) (c .args .prices .now) (c .args .chosen) (c .pre .few) ls (c .pre .good) (place-of ls n - 1) (c .args .i) (r .place) (c .pre .ripe .1 .other) a is (c .pre .fitting (c .args .i) a is) (c .args .along) (r .here) (r .fresh) (r .moves));
+      high = subst (λ z. z ≤ 256) (sym e) (new-high K arcs (c .args .flow .now) (c .args .prices .now) (c .args .chosen) (c .pre .few) ls (c .pre .good) (place-of ls n - 1) (c .args .i) (r .place) (c .pre .ripe .1 .other) a is (c .pre .fitting (c .args .i) a is) (c .args .along) (r .here) (r .fresh) (r .moves));
+    }
 
 pub returns : need.returns
 returns g c =
@@ -80,7 +80,7 @@ returns g c =
     = c .push .ensures ∙ ap (λ (z : ℕ). pushed ls (record { node = z; parent = at; step = record { node = n; arc = c .args .i; along = c .args .along } })) (c .far-end-node .ensures)
     ∙ ap (λ (z : ℕ). pushed ls (record { node = far a (c .args .along); parent = at; step = record { node = z; arc = c .args .i; along = c .args .along } })) (sym (r .node)) in
     record {
-  good = subst (Good K arcs (c .args .flow .now) (c .args .prices .now) (c .args .chosen)) (sym made) (new-good K arcs (c .args .flow .now) (c .args .prices .now) (c .args .chosen) (c .pre .few) ls (c .pre .good) (place-of ls n - 1) (c .args .i) (r .place) (c .pre .ripe .1 .other) a is (c .pre .fitting (c .args .i) a is) (c .args .along) (r .here) (r .fresh) (r .moves));
-  grown = subst (Grown ls) (sym made) (new-grown K arcs (c .args .flow .now) (c .args .prices .now) (c .args .chosen) (c .pre .few) ls (c .pre .good) (place-of ls n - 1) (c .args .i) (r .place) (c .pre .ripe .1 .other) a is (c .pre .fitting (c .args .i) a is) (c .args .along) (r .here) (r .fresh) (r .moves));
-  more = ap (λ z. z .count) made;
-}
+      good = subst (Good K arcs (c .args .flow .now) (c .args .prices .now) (c .args .chosen)) (sym made) (new-good K arcs (c .args .flow .now) (c .args .prices .now) (c .args .chosen) (c .pre .few) ls (c .pre .good) (place-of ls n - 1) (c .args .i) (r .place) (c .pre .ripe .1 .other) a is (c .pre .fitting (c .args .i) a is) (c .args .along) (r .here) (r .fresh) (r .moves));
+      grown = subst (Grown ls) (sym made) (new-grown K arcs (c .args .flow .now) (c .args .prices .now) (c .args .chosen) (c .pre .few) ls (c .pre .good) (place-of ls n - 1) (c .args .i) (r .place) (c .pre .ripe .1 .other) a is (c .pre .fitting (c .args .i) a is) (c .args .along) (r .here) (r .fresh) (r .moves));
+      more = ap (λ z. z .count) made;
+    }

@@ -1,4 +1,5 @@
 use mathlib.Core.Path.{_≡_, refl, sym, ap, subst, _∙_}
+use Prim.Native.Nat.{_+_}
 use native.Mathlib.Omega.{arith}
 use lib.IntN.{pos}
 use lib.ListN.{getD}
@@ -6,11 +7,10 @@ use mir.Syntax.{w32}
 use mir.Val.{SFits}
 use borrow.Author.Needs.{needs}
 use Rattle.std.proofs.shelf.Signed.{toZ-ofZ}
-use Rattle.labels.specs.Moves.{may-at}
 use Rattle.networks.specs.Nets.{shown}
 use Rattle.networks.proofs.Shown.{arc-is, never-absent, length-shown}
-use Rattle.reach.specs.Scans.{slack-at}
-use Rattle.reach.proofs.Sights.{seen-aside, seen-free, seen-slack}
+use Rattle.reach.specs.Scans.{sight-of, Scanned}
+use Rattle.reach.proofs.Sights.{seen-aside, sighted}
 use Rattle.reach.proofs.scans.look.Needs as need
 
 pub returns-in-rest : need.returns-in-rest
@@ -34,38 +34,19 @@ reduced-c-requires g c κs = record {
   moderate = c .pre .moderate;
 }
 
-pub returns-then-may : need.returns-then-may
-returns-then-may g c =
-    let K = g .Cost·CostKind .kind in
-    let arcs = shown (g .N·Network .meaning (c .args .net .now)) in
-    let f : SFits w32 (getD (c .args .flow .now) (c .args .i) (pos 0)) = search needs in
-    (c .in-Some .arc, record { other = c .if-i-chosen .left; is = arc-is (g .N·Network .meaning (c .args .net .now)) (c .args .i) (c .in-Some .arc) (c .in-Some .ensures tt); leads = sym (c .in-Some-crossing .ensures tt) },
-     ap (λ z. may-at K z (c .in-Some .arc) (c .in-Some-crossing .along) (getD (c .args .flow .now) (c .args .i) (pos 0))) (sym (c .reduced-c .ensures .value)) ∙ sym (simp toZ-ofZ at (c .may .ensures)) ∙ c .if-may .taken)
-
-pub slack-requires : need.slack-requires
-slack-requires g c κs = omega (arith, c .reduced-c .ensures .small)
-
-pub returns-in-rest-slack : need.returns-in-rest-slack
-returns-in-rest-slack g c =
-    let K = g .Cost·CostKind .kind in
-    let arcs = shown (g .N·Network .meaning (c .args .net .now)) in
-    let a = c .in-Some .arc in
-    let along = c .in-Some-crossing .along in
-    let f : SFits w32 (getD (c .args .flow .now) (c .args .i) (pos 0)) = search needs in
-    seen-free K (g .Cost·CostKind·met .lawful) arcs (c .args .flow .now) (c .args .prices .now) (c .args .chosen) (c .args .labels .now) (c .args .i) (c .args .best) (c .pre .seen) a
-    (arc-is (g .N·Network .meaning (c .args .net .now)) (c .args .i) a (c .in-Some .ensures tt)) along (c .in-Some-crossing .ensures tt)
-    (ap (λ z. may-at K z a along (getD (c .args .flow .now) (c .args .i) (pos 0))) (sym (c .reduced-c .ensures .value)) ∙ sym (simp toZ-ofZ at (c .may .ensures)) ∙ c .if-may .left)
-    (simp toZ-ofZ at (c .in-rest-slack .ensures tt) ∙ ap (λ z. slack-at K z a along (getD (c .args .flow .now) (c .args .i) (pos 0))) (c .reduced-c .ensures .value))
+pub sight-requires : need.sight-requires
+sight-requires g c κs = omega (arith, c .reduced-c .ensures .small)
 
 pub returns : need.returns
 returns g c =
     let K = g .Cost·CostKind .kind in
     let arcs = shown (g .N·Network .meaning (c .args .net .now)) in
     let a = c .in-Some .arc in
+    let i = c .args .i in
     let along = c .in-Some-crossing .along in
+    let x = getD (c .args .flow .now) i (pos 0) in
     let f : SFits w32 (getD (c .args .flow .now) (c .args .i) (pos 0)) = search needs in
-    seen-slack K (g .Cost·CostKind·met .lawful) arcs (c .args .flow .now) (c .args .prices .now) (c .args .chosen) (c .args .labels .now) (c .args .i) (c .args .best) (c .pre .seen) a
-    (arc-is (g .N·Network .meaning (c .args .net .now)) (c .args .i) a (c .in-Some .ensures tt)) along (c .in-Some-crossing .ensures tt)
-    (ap (λ z. may-at K z a along (getD (c .args .flow .now) (c .args .i) (pos 0))) (sym (c .reduced-c .ensures .value)) ∙ sym (simp toZ-ofZ at (c .may .ensures)) ∙ c .if-may .left)
-    (c .in-Some-slack .slack) (record { slack = c .in-Some-slack .slack; arc = c .args .i; along = along }) (c .if-i-chosen .left)
-    (simp toZ-ofZ at (c .in-Some-slack .ensures tt) ∙ ap (λ z. slack-at K z a along (getD (c .args .flow .now) (c .args .i) (pos 0))) (c .reduced-c .ensures .value)) refl (c .nearer .result) (c .nearer .ensures)
+    subst (Scanned K arcs (c .args .flow .now) (c .args .prices .now) (c .args .chosen) (c .args .labels .now) (i + 1))
+    (sym (simp toZ-ofZ at (c .sight .ensures) ∙ ap (λ z. sight-of K z a along x i (c .args .best)) (c .reduced-c .ensures .value)))
+    (sighted K (g .Cost·CostKind·met .lawful) arcs (c .args .flow .now) (c .args .prices .now) (c .args .chosen) (c .args .labels .now) i (c .args .best) (c .pre .seen) a
+    (arc-is (g .N·Network .meaning (c .args .net .now)) i a (c .in-Some .ensures tt)) along (c .in-Some-crossing .ensures tt) (c .if-i-chosen .left))

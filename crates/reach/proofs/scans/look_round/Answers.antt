@@ -12,13 +12,13 @@ look-requires g c κs =
     let n = g .N·Network .meaning (c .args .net .now) in
     let l = length-shown n in
     record {
-  fitting = c .pre .fitting;
-  moderate = c .pre .moderate;
-  few = c .pre .few;
-  long = c .pre .long;
-  arc = omega (arith, l, c .pre .long, c .arcs-i-end .ensures);
-  seen = c .loop-i .inv;
-}
+      fitting = c .pre .fitting;
+      moderate = c .pre .moderate;
+      few = c .pre .few;
+      long = c .pre .long;
+      arc = omega (arith, l, c .pre .long, c .arcs-i-end .ensures);
+      seen = c .loop-i .inv;
+    }
 
 pub returns : need.returns
 returns g c =

@@ -18,10 +18,10 @@ returns-then-any-large g c =
     let n = g .N·Network .meaning (c .args .net .now) in
     let t = c .tidy .ensures in
     record {
-  ready = tidied-ready K (n .nodes) (shown n) (c .args .flow .now) (c .args .prices .now) (c .tidy .last .prices) (c .pre) t;
-  eased = tidied-eased K (g .Cost·CostKind·met .lawful) (n .nodes) (shown n) (c .args .flow .now) (c .args .prices .now) (c .tidy .last .prices) (c .pre) t;
-  tame = tidied-tame K (n .nodes) (shown n) (c .args .flow .now) (c .args .prices .now) (c .tidy .last .prices) (c .pre) t;
-}
+      ready = tidied-ready K (n .nodes) (shown n) (c .args .flow .now) (c .args .prices .now) (c .tidy .last .prices) (c .pre) t;
+      eased = tidied-eased K (g .Cost·CostKind·met .lawful) (n .nodes) (shown n) (c .args .flow .now) (c .args .prices .now) (c .tidy .last .prices) (c .pre) t;
+      tame = tidied-tame K (n .nodes) (shown n) (c .args .flow .now) (c .args .prices .now) (c .tidy .last .prices) (c .pre) t;
+    }
 
 pub returns-else-any-large : need.returns-else-any-large
 returns-else-any-large g c =

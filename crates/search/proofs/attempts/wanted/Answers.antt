@@ -28,9 +28,9 @@ reduced-requires g c κs =
     let K = g .Cost·CostKind .kind in
     let a = c .in-Some .arc in
     record {
-  fits = subst (λ z. Fit K z a) (sym (c .pre .ready .priced)) (c .pre .ready .fitting (c .args .i) a (arc-is n (c .args .i) a (c .in-Some .ensures tt)));
-  moderate = λ k h. omega (arith, c .pre .ready .bounded k h);
-}
+      fits = subst (λ z. Fit K z a) (sym (c .pre .ready .priced)) (c .pre .ready .fitting (c .args .i) a (arc-is n (c .args .i) a (c .in-Some .ensures tt)));
+      moderate = λ k h. omega (arith, c .pre .ready .bounded k h);
+    }
 
 pub returns-in-rest-amiss : need.returns-in-rest-amiss
 returns-in-rest-amiss g c =

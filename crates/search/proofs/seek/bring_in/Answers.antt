@@ -32,9 +32,13 @@ loop-laps-again g c =
     let qs = c .attempt .last .prices in
     let inv = c .loop-laps .inv in
     let h : c .loop-laps .laps < c .args .budget = ltb-true _ _ (c .in-Lapped .ensures tt .spends .0 refl) in
-    let e = c .in-Lapped .ensures tt in
-    (e .ready, omega arith, e .ends .1 ∙ inv .2, e .ends .0 .long ∙ inv .3,
-     λ found from. going-lapped K laws (n .nodes) arcs found (c .args .i) (c .loop-laps .laps) f ps qs (inv .4 found from) (e .eased) (c .attempt .last .flow) (e .ready) (e .ends .0))
+    let e = c .in-Lapped .ensures tt in (
+      e .ready,
+      omega arith,
+      e .ends .1 ∙ inv .2,
+      e .ends .0 .long ∙ inv .3,
+      λ found from. going-lapped K laws (n .nodes) arcs found (c .args .i) (c .loop-laps .laps) f ps qs (inv .4 found from) (e .eased) (c .attempt .last .flow) (e .ready) (e .ends .0),
+    )
 
 pub returns-in-Kilter : need.returns-in-Kilter
 returns-in-Kilter g c =

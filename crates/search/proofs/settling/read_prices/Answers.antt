@@ -14,10 +14,11 @@ loop-i-again g c =
     let i = c .loop-i .i in
     let old = c .args .prices .now in
     let spot : i < length ps = omega (arith, c .loop-i .inv .0) in
-    let e = getD-read ps i (c .index-prices-i .result) spot (c .index-prices-i .is) (K .zero) ∙ c .loop-i .inv .2 i (omega arith) in
-    (length-set ps i (c .read-price .result) ∙ c .loop-i .inv .0,
-     written (λ k p. p ≡ read-price-as K (c .args .limit) (getD old k (K .zero))) ps i (c .read-price .result) (K .zero) spot (c .loop-i .inv .1) (c .read-price .ensures ∙ ap (read-price-as K (c .args .limit)) e),
-     unwritten ps old i (c .read-price .result) (K .zero) (c .loop-i .inv .2))
+    let e = getD-read ps i (c .index-prices-i .result) spot (c .index-prices-i .is) (K .zero) ∙ c .loop-i .inv .2 i (omega arith) in (
+      length-set ps i (c .read-price .result) ∙ c .loop-i .inv .0,
+      written (λ k p. p ≡ read-price-as K (c .args .limit) (getD old k (K .zero))) ps i (c .read-price .result) (K .zero) spot (c .loop-i .inv .1) (c .read-price .ensures ∙ ap (read-price-as K (c .args .limit)) e),
+      unwritten ps old i (c .read-price .result) (K .zero) (c .loop-i .inv .2),
+    )
 
 pub returns : need.returns
 returns g c = λ k h. c .loop-i .inv .1 k (omega (arith, c .loop-i .inv .0))

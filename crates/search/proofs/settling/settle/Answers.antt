@@ -53,10 +53,10 @@ search-found-requires g c κs =
     let marks = c .args .marks .now in
     let p = no-stop K n flow needs′ (length ps) (length marks) (sym (c .in-rest .ensures tt)) in
     record {
-  going = going-start K laws n flow needs′ (length ps) (length marks) p ps (c .read-prices .last .prices) _ (p .prices-long) (c .read-prices .kept .prices) (ap (λ z. (length ps - 1) * z) (c .largest-cost .ensures)) (c .read-prices .ensures);
-  few = omega (arith, p .flow-long, p .few-arcs);
-  marks = c .clear .kept .marks ∙ p .marks-long;
-}
+      going = going-start K laws n flow needs′ (length ps) (length marks) p ps (c .read-prices .last .prices) _ (p .prices-long) (c .read-prices .kept .prices) (ap (λ z. (length ps - 1) * z) (c .largest-cost .ensures)) (c .read-prices .ensures);
+      few = omega (arith, p .flow-long, p .few-arcs);
+      marks = c .clear .kept .marks ∙ p .marks-long;
+    }
 
 pub tidy-requires : need.tidy-requires
 tidy-requires g c κs =
@@ -107,13 +107,13 @@ returns-in-Cut g c =
     let e = subst (Ended K (n .nodes) (shown n) flow (length flow) (c .args .budget) f qs (c .clear .last .marks) (c .search-found .last .marks)) (c .in-Cut .is) (c .search-found .ensures .ended) in
     let back = c .drop-guard .ensures ∙ ap (λ z. take z (c .save-saved .result)) (c .search-found .kept .flow) ∙ c .save-saved .ensures in
     record {
-  stops = c .in-rest .ensures tt;
-  settles = record {
-    answers = none-left K (n .nodes) (shown n) flow f _ needs′ (e .0) ps qs rs marks (c .search-found .last .marks) (p .needs-long) (p .flow-long ∙ sym (length-shown n)) (p .meets) (e .1) (e .2) back;
-    needs-stay = refl;
-    small-prices = shut;
-  };
-}
+      stops = c .in-rest .ensures tt;
+      settles = record {
+        answers = none-left K (n .nodes) (shown n) flow f _ needs′ (e .0) ps qs rs marks (c .search-found .last .marks) (p .needs-long) (p .flow-long ∙ sym (length-shown n)) (p .meets) (e .1) (e .2) back;
+        needs-stay = refl;
+        small-prices = shut;
+      };
+    }
 
 pub returns-in-Paused : need.returns-in-Paused
 returns-in-Paused g c =
@@ -134,13 +134,13 @@ returns-in-Paused g c =
     let e = subst (Ended K (n .nodes) (shown n) flow (length flow) (c .args .budget) f qs (c .clear .last .marks) (c .search-found .last .marks)) (c .in-Paused .is) (c .search-found .ensures .ended) in
     let clear = λ (k : ℕ) (h : k < length (c .search-found .last .marks)). ap (λ z. getD z k 0) (e .3) ∙ c .clear .ensures k (omega (arith, ap length (e .3))) in
     record {
-  stops = c .in-rest .ensures tt;
-  settles = record {
-    answers = subst (λ z. Paused-left K (n .nodes) (shown n) (c .args .budget) (tables flow needs′ ps marks) (c .in-Paused .laps) (tables z needs′ rs (c .search-found .last .marks))) (sym (c .drop-guard-in-Paused .ensures)) (paused-left K laws (n .nodes) (shown n) flow f qs rs tidied (c .args .budget) (c .in-Paused .laps) needs′ ps marks (c .search-found .last .marks) (e .0) (e .1) (e .2) clear);
-    needs-stay = refl;
-    small-prices = shut;
-  };
-}
+      stops = c .in-rest .ensures tt;
+      settles = record {
+        answers = subst (λ z. Paused-left K (n .nodes) (shown n) (c .args .budget) (tables flow needs′ ps marks) (c .in-Paused .laps) (tables z needs′ rs (c .search-found .last .marks))) (sym (c .drop-guard-in-Paused .ensures)) (paused-left K laws (n .nodes) (shown n) flow f qs rs tidied (c .args .budget) (c .in-Paused .laps) needs′ ps marks (c .search-found .last .marks) (e .0) (e .1) (e .2) clear);
+        needs-stay = refl;
+        small-prices = shut;
+      };
+    }
 
 pub returns : need.returns
 returns g c =
@@ -162,10 +162,10 @@ returns g c =
     let clear = λ (k : ℕ) (h : k < length (c .search-found .last .marks)). ap (λ z. getD z k 0) (e .2) ∙ c .clear .ensures k (omega (arith, ap length (e .2))) in
     let going = subst (λ k. Going K (n .nodes) (shown n) flow k (c .in-Kilter .laps) f qs) (sym (c .search-found .kept .flow)) (e .0) in
     record {
-  stops = c .in-rest .ensures tt;
-  settles = record {
-    answers = subst (λ z. Least-left K (shown n) (c .args .budget) (tables flow needs′ ps marks) (c .search-found .result .total) (c .in-Kilter .laps) (tables z needs′ rs (c .search-found .last .marks))) (sym (c .drop-guard-2 .ensures)) (least-left K laws (n .nodes) (shown n) flow f qs rs tidied (c .args .budget) (c .in-Kilter .laps) (c .search-found .result .total) needs′ ps marks (c .search-found .last .marks) going (e .1) (c .search-found .ensures .total) clear);
-    needs-stay = refl;
-    small-prices = shut;
-  };
-}
+      stops = c .in-rest .ensures tt;
+      settles = record {
+        answers = subst (λ z. Least-left K (shown n) (c .args .budget) (tables flow needs′ ps marks) (c .search-found .result .total) (c .in-Kilter .laps) (tables z needs′ rs (c .search-found .last .marks))) (sym (c .drop-guard-2 .ensures)) (least-left K laws (n .nodes) (shown n) flow f qs rs tidied (c .args .budget) (c .in-Kilter .laps) (c .search-found .result .total) needs′ ps marks (c .search-found .last .marks) going (e .1) (c .search-found .ensures .total) clear);
+        needs-stay = refl;
+        small-prices = shut;
+      };
+    }
