@@ -46,8 +46,8 @@ fn arc_fault<C: CostKind>(nodes: usize, a: usize, arc: Arc<C>, f: i32) -> Option
 
 // The first fault of the arcs in turn.
 fn arcs_fault<N: Network>(net: &N, flow: &[i32]) -> Option<Stop>
-    requires long { length flow.now ≡ length (meaning net.now).arcs }
-    ensures { option_map told result ≡ arcs_stop Cost-as-CostKind.kind.size (meaning net.now).nodes 1 (shown (meaning net.now)) flow.now }
+    requires long { length flow.now ≡ length (N.meaning net.now).arcs }
+    ensures { option_map told result ≡ arcs_stop N.Cost.CostKind.kind.size (N.meaning net.now).nodes 1 (shown (N.meaning net.now)) flow.now }
 {
     let nodes = net.nodes();
     for i in 0..flow.len() {
@@ -71,8 +71,8 @@ fn meets(balance: i64, need: i32) -> bool
 // The first node whose imbalance differs from its need.
 fn needs_fault<N: Network>(net: &N, flow: &[i32], needs: &[i32]) -> Option<Stop>
     requires few { length flow.now ≤ 1024 }
-    requires long { length flow.now ≡ length (meaning net.now).arcs }
-    ensures { option_map told result ≡ needs_stop (shown (meaning net.now)) flow.now 1 needs.now }
+    requires long { length flow.now ≡ length (N.meaning net.now).arcs }
+    ensures { option_map told result ≡ needs_stop (shown (N.meaning net.now)) flow.now 1 needs.now }
 {
     for i in 0..needs.len() {
         if !meets(imbalance(net, flow, i + 1), needs[i]) {
@@ -90,7 +90,7 @@ pub fn first_stop<N: Network>(
     prices: usize,
     marks: usize,
 ) -> Option<Stop>
-    ensures { option_map told result ≡ first_stop_of Cost-as-CostKind.kind.size (meaning net.now) flow.now needs.now prices marks }
+    ensures { option_map told result ≡ first_stop_of N.Cost.CostKind.kind.size (N.meaning net.now) flow.now needs.now prices marks }
 {
     let nodes = net.nodes();
     let arcs = net.arcs();
@@ -114,7 +114,7 @@ pub fn open_stop<N: Network>(
     prices: usize,
     marks: usize,
 ) -> Option<Stop>
-    ensures { option_map told result ≡ open_stop_of Cost-as-CostKind.kind.size (meaning net.now) flow.now needs prices marks }
+    ensures { option_map told result ≡ open_stop_of N.Cost.CostKind.kind.size (N.meaning net.now) flow.now needs prices marks }
 {
     let nodes = net.nodes();
     let arcs = net.arcs();
@@ -136,7 +136,7 @@ pub fn take_up_stop<N: Network>(
     prices: usize,
     marks: usize,
 ) -> Option<Stop>
-    ensures { option_map told result ≡ take_up_stop_of Cost-as-CostKind.kind.size (meaning net.now) own offered.now needs.now prices marks }
+    ensures { option_map told result ≡ take_up_stop_of N.Cost.CostKind.kind.size (N.meaning net.now) own offered.now needs.now prices marks }
 {
     let nodes = net.nodes();
     let arcs = net.arcs();

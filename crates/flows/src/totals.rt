@@ -27,10 +27,10 @@ fn multiple<C: CostKind>(cost: C, f: i32) -> C
 // The sum of cost times flow.
 pub fn total<N: Network>(net: &N, flow: &[i32]) -> N::Cost
     requires few { length flow.now ≤ 1024 }
-    requires long { length flow.now ≡ length (meaning net.now).arcs }
-    requires fitting { Fitting N.Cost.CostKind.kind (meaning net.now).nodes (shown (meaning net.now)) }
+    requires long { length flow.now ≡ length (N.meaning net.now).arcs }
+    requires fitting { Fitting N.Cost.CostKind.kind (N.meaning net.now).nodes (shown (N.meaning net.now)) }
     requires small { Small flow.now }
-    ensures { result ≡ total_of (sums N.Cost.CostKind.kind) (shown (meaning net.now)) flow.now }
+    ensures { result ≡ total_of (sums N.Cost.CostKind.kind) (shown (N.meaning net.now)) flow.now }
 {
     let mut all = N::Cost::zero();
     for i in 0..flow.len() {
@@ -53,8 +53,8 @@ fn added<C: CostKind>(sum: C, cost: C, f: i32) -> Option<C>
 // The sum of cost times flow, arc by arc as far as there are arcs and flows; absent where the sum so far or
 // a product leaves the kind's range, which no flow within the limits does.
 pub fn checked_total<N: Network>(net: &N, flow: &[i32]) -> Option<N::Cost>
-    ensures running { result ≡ running_total (sums N.Cost.CostKind.kind) N.Cost.CostKind.kind.zero (shown (meaning net.now)) flow.now }
-    ensures within { length flow.now ≤ most_arcs → Fitting N.Cost.CostKind.kind (meaning net.now).nodes (shown (meaning net.now)) → Small flow.now → result ≡ Some (total_of (sums N.Cost.CostKind.kind) (shown (meaning net.now)) flow.now) }
+    ensures running { result ≡ running_total (sums N.Cost.CostKind.kind) N.Cost.CostKind.kind.zero (shown (N.meaning net.now)) flow.now }
+    ensures within { length flow.now ≤ most_arcs → Fitting N.Cost.CostKind.kind (N.meaning net.now).nodes (shown (N.meaning net.now)) → Small flow.now → result ≡ Some (total_of (sums N.Cost.CostKind.kind) (shown (N.meaning net.now)) flow.now) }
 {
     let mut all = N::Cost::zero();
     for i in 0..flow.len() {

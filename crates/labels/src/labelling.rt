@@ -96,14 +96,14 @@ fn extend<N: Network>(
     at: usize,
     labels: &mut Labels,
 )
-    requires fitting { Fitting N.Cost.CostKind.kind (length prices.now) (shown (meaning net.now)) }
+    requires fitting { Fitting N.Cost.CostKind.kind (length prices.now) (shown (N.meaning net.now)) }
     requires moderate { Bounded N.Cost.CostKind.kind price_limit prices.now }
     requires few { length prices.now ≤ 256 }
-    requires long { length flow.now ≡ length (shown (meaning net.now)) }
-    requires good { Good N.Cost.CostKind.kind (shown (meaning net.now)) flow.now prices.now chosen labels.old }
+    requires long { length flow.now ≡ length (shown (N.meaning net.now)) }
+    requires good { Good N.Cost.CostKind.kind (shown (N.meaning net.now)) flow.now prices.now chosen labels.old }
     requires arc { i < length flow.now }
     requires place { at < labels.old.count }
-    ensures good { Good N.Cost.CostKind.kind (shown (meaning net.now)) flow.now prices.now chosen labels.new }
+    ensures good { Good N.Cost.CostKind.kind (shown (N.meaning net.now)) flow.now prices.now chosen labels.new }
     ensures grown { Grown labels.old labels.new }
 {
     if i == chosen {
@@ -145,13 +145,13 @@ pub fn label<N: Network>(
     start: usize,
     labels: &mut Labels,
 ) -> bool
-    requires fitting { Fitting N.Cost.CostKind.kind (length prices.now) (shown (meaning net.now)) }
+    requires fitting { Fitting N.Cost.CostKind.kind (length prices.now) (shown (N.meaning net.now)) }
     requires moderate { Bounded N.Cost.CostKind.kind price_limit prices.now }
     requires few { length prices.now ≤ 256 }
-    requires long { length flow.now ≡ length (shown (meaning net.now)) }
-    requires good { Good N.Cost.CostKind.kind (shown (meaning net.now)) flow.now prices.now chosen labels.old }
+    requires long { length flow.now ≡ length (shown (N.meaning net.now)) }
+    requires good { Good N.Cost.CostKind.kind (shown (N.meaning net.now)) flow.now prices.now chosen labels.old }
     requires node { (1 ≤ sought) × (sought ≤ length prices.now) }
-    ensures good { Good N.Cost.CostKind.kind (shown (meaning net.now)) flow.now prices.now chosen labels.new }
+    ensures good { Good N.Cost.CostKind.kind (shown (N.meaning net.now)) flow.now prices.now chosen labels.new }
     ensures grown { Grown labels.old labels.new }
     ensures found { result ≡ nat_lt 0 (place_of labels.new sought) }
 {

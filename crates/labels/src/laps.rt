@@ -46,12 +46,12 @@ fn span(limit: i32, f: i32, along: bool) -> i32
 
 // By how much the step's arc may be moved that way.
 fn room<N: Network>(net: &N, flow: &[i32], prices: &[N::Cost], step: Step) -> i32
-    requires fitting { Fitting N.Cost.CostKind.kind (length prices.now) (shown (meaning net.now)) }
+    requires fitting { Fitting N.Cost.CostKind.kind (length prices.now) (shown (N.meaning net.now)) }
     requires moderate { Bounded N.Cost.CostKind.kind price_limit prices.now }
-    requires long { length flow.now ≡ length (shown (meaning net.now)) }
+    requires long { length flow.now ≡ length (shown (N.meaning net.now)) }
     requires small { Small flow.now }
     requires arc { step.arc < length flow.now }
-    ensures { RoomIs N.Cost.CostKind.kind (shown (meaning net.now)) flow.now prices.now step result }
+    ensures { RoomIs N.Cost.CostKind.kind (shown (N.meaning net.now)) flow.now prices.now step result }
 {
     let Some(arc) = net.arc(step.arc + 1) else {
         return 0;
@@ -68,14 +68,14 @@ fn lesser(a: i32, b: i32) -> i32
 
 // The least room over the steps.
 fn least_room<N: Network>(net: &N, flow: &[i32], prices: &[N::Cost], steps: &[Step]) -> i32
-    requires fitting { Fitting N.Cost.CostKind.kind (length prices.now) (shown (meaning net.now)) }
+    requires fitting { Fitting N.Cost.CostKind.kind (length prices.now) (shown (N.meaning net.now)) }
     requires moderate { Bounded N.Cost.CostKind.kind price_limit prices.now }
-    requires long { length flow.now ≡ length (shown (meaning net.now)) }
+    requires long { length flow.now ≡ length (shown (N.meaning net.now)) }
     requires small { Small flow.now }
-    requires moving { All (Moving N.Cost.CostKind.kind (shown (meaning net.now)) flow.now prices.now) steps.now }
+    requires moving { All (Moving N.Cost.CostKind.kind (shown (N.meaning net.now)) flow.now prices.now) steps.now }
     ensures low { pos 1 ≤ℤ result }
     ensures high { result ≤ℤ pos 2000000 }
-    ensures least { All (FitsIn N.Cost.CostKind.kind (shown (meaning net.now)) flow.now prices.now result) steps.now }
+    ensures least { All (FitsIn N.Cost.CostKind.kind (shown (N.meaning net.now)) flow.now prices.now result) steps.now }
 {
     let mut least = 2_000_000;
     for step in steps {
@@ -106,15 +106,15 @@ fn send(flow: &mut [i32], steps: &[Step], amount: i32)
 
 // Goes round once: over the chosen arc and back by the labels, with as much as there is room for.
 pub fn lap<N: Network>(net: &N, flow: &mut [i32], prices: &[N::Cost], chosen: Step, labels: &Labels)
-    requires fitting { Fitting N.Cost.CostKind.kind (length prices.now) (shown (meaning net.now)) }
+    requires fitting { Fitting N.Cost.CostKind.kind (length prices.now) (shown (N.meaning net.now)) }
     requires moderate { Bounded N.Cost.CostKind.kind price_limit prices.now }
-    requires long { length flow.old ≡ length (shown (meaning net.now)) }
+    requires long { length flow.old ≡ length (shown (N.meaning net.now)) }
     requires small { Small flow.old }
-    requires good { Good N.Cost.CostKind.kind (shown (meaning net.now)) flow.old prices.now chosen.arc labels.now }
+    requires good { Good N.Cost.CostKind.kind (shown (N.meaning net.now)) flow.old prices.now chosen.arc labels.now }
     requires node { (1 ≤ chosen.node) × (chosen.node ≤ 256) }
     requires reached { Labelled labels.now chosen.node }
-    requires chosen { Chosen N.Cost.CostKind.kind (shown (meaning net.now)) flow.old prices.now chosen (node_at labels.now 0) }
-    ensures { GoneRound N.Cost.CostKind.kind (shown (meaning net.now)) prices.now flow.old flow.new }
+    requires chosen { Chosen N.Cost.CostKind.kind (shown (N.meaning net.now)) flow.old prices.now chosen (node_at labels.now 0) }
+    ensures { GoneRound N.Cost.CostKind.kind (shown (N.meaning net.now)) prices.now flow.old flow.new }
 {
     let mut steps = [chosen; 256];
     let place = labels.places[chosen.node - 1] - 1;

@@ -92,9 +92,9 @@ impl TagRing {
         layer: usize,
         a: usize,
     ) -> Option<Result<(), Stop>>
-        ensures answers { option_map said result ≡ (if has 0 self.old.places then Some (answer (take_out_stop (meaning net.old) layer a) tt) else None) }
-        ensures network { meaning net.new ≡ (if has 0 self.old.places then taken (meaning net.old) layer a else meaning net.old) }
-        ensures ring { self.new.places ≡ (if has 0 self.old.places then unless (take_out_stop (meaning net.old) layer a) self.old.places (with_tag self.old.places a) else self.old.places) }
+        ensures answers { option_map said result ≡ (if has 0 self.old.places then Some (answer (take_out_stop (N.meaning net.old) layer a) tt) else None) }
+        ensures network { N.meaning net.new ≡ (if has 0 self.old.places then taken (N.meaning net.old) layer a else N.meaning net.old) }
+        ensures ring { self.new.places ≡ (if has 0 self.old.places then unless (take_out_stop (N.meaning net.old) layer a) self.old.places (with_tag self.old.places a) else self.old.places) }
     {
         let room = line_of(&self.places, 0);
         if room >= 64 {
@@ -117,9 +117,9 @@ impl TagRing {
         layer: usize,
         a: usize,
     ) -> Option<Result<(), Stop>>
-        ensures answers { option_map said result ≡ (if keeps self.old.places a then Some (answer (hand_back_stop (meaning net.old) layer a) tt) else None) }
-        ensures network { meaning net.new ≡ (if keeps self.old.places a then handed_back (meaning net.old) layer a else meaning net.old) }
-        ensures ring { self.new.places ≡ (if keeps self.old.places a then unless (hand_back_stop (meaning net.old) layer a) self.old.places (without_tag self.old.places a) else self.old.places) }
+        ensures answers { option_map said result ≡ (if keeps self.old.places a then Some (answer (hand_back_stop (N.meaning net.old) layer a) tt) else None) }
+        ensures network { N.meaning net.new ≡ (if keeps self.old.places a then handed_back (N.meaning net.old) layer a else N.meaning net.old) }
+        ensures ring { self.new.places ≡ (if keeps self.old.places a then unless (hand_back_stop (N.meaning net.old) layer a) self.old.places (without_tag self.old.places a) else self.old.places) }
     {
         let at = line_of(&self.places, a);
         if a == 0 || at >= 64 {

@@ -8,8 +8,8 @@ use crate::{Network, Stop};
 
 // Whether an arc can be taken out at a lock-out now. The hand-back is never refused.
 pub fn try_out<N: Network>(net: &mut N, layer: usize, a: usize) -> Result<(), Stop>
-    ensures answers { said result ≡ answer (take_out_stop (meaning net.old) layer a) tt }
-    ensures same { meaning net.new ≡ meaning net.old }
+    ensures answers { said result ≡ answer (take_out_stop (N.meaning net.old) layer a) tt }
+    ensures same { N.meaning net.new ≡ N.meaning net.old }
 {
     let tag = net.take_out(layer, a)?;
     match net.hand_back(layer, tag) {

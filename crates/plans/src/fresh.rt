@@ -18,7 +18,7 @@ pub fn settle_new<N: Network>(
     marks: &mut [u8],
     budget: u32,
 ) -> Result<Answer<N::Cost>, Stop>
-    ensures { SettlesNew N.Cost.CostKind.kind (state (meaning net.now) flow.old needs.old prices.old marks.old) budget result (state (meaning net.now) flow.new needs.new prices.new marks.new) }
+    ensures { SettlesNew N.Cost.CostKind.kind (state (N.meaning net.now) flow.old needs.old prices.old marks.old) budget result (state (N.meaning net.now) flow.new needs.new prices.new marks.new) }
 {
     if let Err(stop) = open(net, flow, needs, prices, marks) {
         return Err(stop);

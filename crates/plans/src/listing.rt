@@ -69,7 +69,7 @@ pub fn make<N: Network>(
     offers: &[i32],
     call: Call<N::Cost>,
 ) -> Option<Outcome<N::Cost>>
-    ensures { Makes N.Cost.CostKind.kind (state (meaning net.old) flow.old needs.now prices.old marks.old) tags.old.places (asked offers.now call) result (state (meaning net.new) flow.new needs.now prices.new marks.new) tags.new.places }
+    ensures { Makes N.Cost.CostKind.kind (state (N.meaning net.old) flow.old needs.now prices.old marks.old) tags.old.places (asked offers.now call) result (state (N.meaning net.new) flow.new needs.now prices.new marks.new) tags.new.places }
 {
     match call {
         Call::Settle { budget } => Some(settled(settle(net, flow, needs, prices, marks, budget))),

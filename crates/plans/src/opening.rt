@@ -16,9 +16,9 @@ pub fn open<N: Network>(
     prices: &[N::Cost],
     marks: &[u8],
 ) -> Result<(), Stop>
-    ensures stops { said result ≡ answer (opening_stop N.Cost.CostKind.kind (state (meaning net.now) flow.now needs.old prices.now marks.now)) tt }
-    ensures leaves { state (meaning net.now) flow.now needs.new prices.now marks.now ≡ unless (opening_stop N.Cost.CostKind.kind (state (meaning net.now) flow.now needs.old prices.now marks.now)) (state (meaning net.now) flow.now needs.old prices.now marks.now) (opened (state (meaning net.now) flow.now needs.old prices.now marks.now)) }
-    ensures new { result ≡ Ok tt → New N.Cost.CostKind.kind (state (meaning net.now) flow.now needs.new prices.now marks.now) }
+    ensures stops { said result ≡ answer (opening_stop N.Cost.CostKind.kind (state (N.meaning net.now) flow.now needs.old prices.now marks.now)) tt }
+    ensures leaves { state (N.meaning net.now) flow.now needs.new prices.now marks.now ≡ unless (opening_stop N.Cost.CostKind.kind (state (N.meaning net.now) flow.now needs.old prices.now marks.now)) (state (N.meaning net.now) flow.now needs.old prices.now marks.now) (opened (state (N.meaning net.now) flow.now needs.old prices.now marks.now)) }
+    ensures new { result ≡ Ok tt → New N.Cost.CostKind.kind (state (N.meaning net.now) flow.now needs.new prices.now marks.now) }
 {
     if let Some(stop) = open_stop(net, flow, needs.len(), prices.len(), marks.len()) {
         return Err(stop);

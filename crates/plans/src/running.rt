@@ -30,7 +30,7 @@ fn make_all<N: Network>(
     calls: &[Call<N::Cost>],
     outcomes: &mut [Outcome<N::Cost>],
 ) -> usize
-    ensures { MakesAll N.Cost.CostKind.kind (state (meaning net.old) flow.old needs.now prices.old marks.old) tags.old.places offers.now calls.now outcomes.old result (state (meaning net.new) flow.new needs.now prices.new marks.new) tags.new.places outcomes.new }
+    ensures { MakesAll N.Cost.CostKind.kind (state (N.meaning net.old) flow.old needs.now prices.old marks.old) tags.old.places offers.now calls.now outcomes.old result (state (N.meaning net.new) flow.new needs.now prices.new marks.new) tags.new.places outcomes.new }
 {
     for i in 0..calls.len() {
         if i >= outcomes.len() {
@@ -57,7 +57,7 @@ pub fn run<N: Network>(
     calls: &[Call<N::Cost>],
     outcomes: &mut [Outcome<N::Cost>],
 ) -> Result<usize, Stop>
-    ensures { Runs N.Cost.CostKind.kind (state (meaning net.old) flow.old needs.old prices.old marks.old) tags.old.places offers.now calls.now outcomes.old result (state (meaning net.new) flow.new needs.new prices.new marks.new) tags.new.places outcomes.new }
+    ensures { Runs N.Cost.CostKind.kind (state (N.meaning net.old) flow.old needs.old prices.old marks.old) tags.old.places offers.now calls.now outcomes.old result (state (N.meaning net.new) flow.new needs.new prices.new marks.new) tags.new.places outcomes.new }
 {
     if let Err(stop) = open(net, flow, needs, prices, marks) {
         return Err(stop);

@@ -19,7 +19,7 @@ pub fn settle<N: Network>(
     marks: &mut [u8],
     budget: u32,
 ) -> Result<Answer<N::Cost>, Stop>
-    ensures { Keeps N.Cost.CostKind.kind (state (meaning net.now) flow.old needs.now prices.old marks.old) (event (settle_call budget) (settle_came result)) (state (meaning net.now) flow.new needs.now prices.new marks.new) }
+    ensures { Keeps N.Cost.CostKind.kind (state (N.meaning net.now) flow.old needs.now prices.old marks.old) (event (settle_call budget) (settle_came result)) (state (N.meaning net.now) flow.new needs.now prices.new marks.new) }
 {
     search::settle(net, flow, needs, prices, marks, budget)
 }
@@ -41,7 +41,7 @@ pub fn take_up<N: Network>(
     marks: &[u8],
     offered: &[i32],
 ) -> Result<(), Stop>
-    ensures { Keeps N.Cost.CostKind.kind (state (meaning net.now) flow.old needs.now prices.now marks.now) (event (take_up_of offered.now) (done_came result)) (state (meaning net.now) flow.new needs.now prices.now marks.now) }
+    ensures { Keeps N.Cost.CostKind.kind (state (N.meaning net.now) flow.old needs.now prices.now marks.now) (event (take_up_of offered.now) (done_came result)) (state (N.meaning net.now) flow.new needs.now prices.now marks.now) }
 {
     if let Some(stop) = take_up_stop(net, flow.len(), offered, needs, prices.len(), marks.len()) {
         return Err(stop);

@@ -74,11 +74,11 @@ pub fn next_rise<N: Network>(
     chosen: Step,
     best: Option<Best<N::Cost>>,
 ) -> Rise<N::Cost>
-    requires fitting { Fitting N.Cost.CostKind.kind (length prices.now) (shown (meaning net.now)) }
+    requires fitting { Fitting N.Cost.CostKind.kind (length prices.now) (shown (N.meaning net.now)) }
     requires moderate { Bounded N.Cost.CostKind.kind price_limit prices.now }
-    requires long { length flow.now ≡ length (shown (meaning net.now)) }
+    requires long { length flow.now ≡ length (shown (N.meaning net.now)) }
     requires arc { chosen.arc < length flow.now }
-    ensures { NextIs N.Cost.CostKind.kind (shown (meaning net.now)) flow.now prices.now chosen best result }
+    ensures { NextIs N.Cost.CostKind.kind (shown (N.meaning net.now)) flow.now prices.now chosen best result }
 {
     let Some(arc) = net.arc(chosen.arc + 1) else {
         return Rise::Unlimited;

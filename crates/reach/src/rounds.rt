@@ -40,15 +40,15 @@ fn change<N: Network>(
     best: Option<Best<N::Cost>>,
     labels: &mut Labels,
 ) -> Round
-    requires fitting { Fitting N.Cost.CostKind.kind (length prices.old) (shown (meaning net.now)) }
+    requires fitting { Fitting N.Cost.CostKind.kind (length prices.old) (shown (N.meaning net.now)) }
     requires moderate { Bounded N.Cost.CostKind.kind price_limit prices.old }
     requires few { length prices.old ≤ 256 }
-    requires long { length flow.now ≡ length (shown (meaning net.now)) }
-    requires good { Good N.Cost.CostKind.kind (shown (meaning net.now)) flow.now prices.old chosen.arc labels.old }
-    requires chosen { Chosen N.Cost.CostKind.kind (shown (meaning net.now)) flow.now prices.old chosen (node_at labels.old 0) }
+    requires long { length flow.now ≡ length (shown (N.meaning net.now)) }
+    requires good { Good N.Cost.CostKind.kind (shown (N.meaning net.now)) flow.now prices.old chosen.arc labels.old }
+    requires chosen { Chosen N.Cost.CostKind.kind (shown (N.meaning net.now)) flow.now prices.old chosen (node_at labels.old 0) }
     requires sought { place_of labels.old chosen.node ≡ 0 }
-    requires seen { Seen N.Cost.CostKind.kind (shown (meaning net.now)) flow.now prices.old chosen.arc labels.old (length (shown (meaning net.now))) best }
-    ensures { Advanced N.Cost.CostKind.kind (shown (meaning net.now)) flow.now prices.old prices.new chosen labels.old labels.new result }
+    requires seen { Seen N.Cost.CostKind.kind (shown (N.meaning net.now)) flow.now prices.old chosen.arc labels.old (length (shown (N.meaning net.now))) best }
+    ensures { Advanced N.Cost.CostKind.kind (shown (N.meaning net.now)) flow.now prices.old prices.new chosen labels.old labels.new result }
 {
     match next_rise(net, flow, prices, chosen, best) {
         Rise::Unlimited => Round::Cut,
@@ -72,14 +72,14 @@ fn advance<N: Network>(
     chosen: Step,
     labels: &mut Labels,
 ) -> Round
-    requires fitting { Fitting N.Cost.CostKind.kind (length prices.old) (shown (meaning net.now)) }
+    requires fitting { Fitting N.Cost.CostKind.kind (length prices.old) (shown (N.meaning net.now)) }
     requires moderate { Bounded N.Cost.CostKind.kind price_limit prices.old }
     requires few { length prices.old ≤ 256 }
-    requires long { length flow.now ≡ length (shown (meaning net.now)) }
-    requires good { Good N.Cost.CostKind.kind (shown (meaning net.now)) flow.now prices.old chosen.arc labels.old }
-    requires chosen { Chosen N.Cost.CostKind.kind (shown (meaning net.now)) flow.now prices.old chosen (node_at labels.old 0) }
+    requires long { length flow.now ≡ length (shown (N.meaning net.now)) }
+    requires good { Good N.Cost.CostKind.kind (shown (N.meaning net.now)) flow.now prices.old chosen.arc labels.old }
+    requires chosen { Chosen N.Cost.CostKind.kind (shown (N.meaning net.now)) flow.now prices.old chosen (node_at labels.old 0) }
     requires sought { place_of labels.old chosen.node ≡ 0 }
-    ensures { Advanced N.Cost.CostKind.kind (shown (meaning net.now)) flow.now prices.old prices.new chosen labels.old labels.new result }
+    ensures { Advanced N.Cost.CostKind.kind (shown (N.meaning net.now)) flow.now prices.old prices.new chosen labels.old labels.new result }
 {
     match look_round(net, flow, prices, chosen.arc, labels) {
         Scan::Open(i, along) => {
@@ -98,16 +98,16 @@ pub fn reach<N: Network>(
     chosen: Step,
     labels: &mut Labels,
 ) -> Ending
-    requires fitting { Fitting N.Cost.CostKind.kind (length prices.old) (shown (meaning net.now)) }
+    requires fitting { Fitting N.Cost.CostKind.kind (length prices.old) (shown (N.meaning net.now)) }
     requires few { length prices.old ≤ 256 }
     requires tame { Bounded N.Cost.CostKind.kind large prices.old }
-    requires long { length flow.now ≡ length (shown (meaning net.now)) }
+    requires long { length flow.now ≡ length (shown (N.meaning net.now)) }
     requires node { (1 ≤ chosen.node) × (chosen.node ≤ length prices.old) }
-    requires good { Good N.Cost.CostKind.kind (shown (meaning net.now)) flow.now prices.old chosen.arc labels.old }
+    requires good { Good N.Cost.CostKind.kind (shown (N.meaning net.now)) flow.now prices.old chosen.arc labels.old }
     requires one { labels.old.count ≡ 1 }
-    requires chosen { Chosen N.Cost.CostKind.kind (shown (meaning net.now)) flow.now prices.old chosen (node_at labels.old 0) }
-    ensures prices { Repriced N.Cost.CostKind.kind (shown (meaning net.now)) flow.now prices.old prices.new }
-    ensures ends { EndsWith N.Cost.CostKind.kind (shown (meaning net.now)) flow.now prices.new chosen labels.new result }
+    requires chosen { Chosen N.Cost.CostKind.kind (shown (N.meaning net.now)) flow.now prices.old chosen (node_at labels.old 0) }
+    ensures prices { Repriced N.Cost.CostKind.kind (shown (N.meaning net.now)) flow.now prices.old prices.new }
+    ensures ends { EndsWith N.Cost.CostKind.kind (shown (N.meaning net.now)) flow.now prices.new chosen labels.new result }
 {
     let mut start = 0;
     // Each round labels one node more, so that the rounds end.

@@ -107,13 +107,13 @@ fn look<N: Network>(
     i: usize,
     best: Option<Best<N::Cost>>,
 ) -> Scan<N::Cost>
-    requires fitting { Fitting N.Cost.CostKind.kind (length prices.now) (shown (meaning net.now)) }
+    requires fitting { Fitting N.Cost.CostKind.kind (length prices.now) (shown (N.meaning net.now)) }
     requires moderate { Bounded N.Cost.CostKind.kind price_limit prices.now }
     requires few { length prices.now ≤ 256 }
-    requires long { length flow.now ≡ length (shown (meaning net.now)) }
+    requires long { length flow.now ≡ length (shown (N.meaning net.now)) }
     requires arc { i < length flow.now }
-    requires seen { Seen N.Cost.CostKind.kind (shown (meaning net.now)) flow.now prices.now chosen labels.now i best }
-    ensures { Scanned N.Cost.CostKind.kind (shown (meaning net.now)) flow.now prices.now chosen labels.now (i + 1) result }
+    requires seen { Seen N.Cost.CostKind.kind (shown (N.meaning net.now)) flow.now prices.now chosen labels.now i best }
+    ensures { Scanned N.Cost.CostKind.kind (shown (N.meaning net.now)) flow.now prices.now chosen labels.now (i + 1) result }
 {
     if i == chosen {
         return Scan::Shut(best);
@@ -136,11 +136,11 @@ pub fn look_round<N: Network>(
     chosen: usize,
     labels: &Labels,
 ) -> Scan<N::Cost>
-    requires fitting { Fitting N.Cost.CostKind.kind (length prices.now) (shown (meaning net.now)) }
+    requires fitting { Fitting N.Cost.CostKind.kind (length prices.now) (shown (N.meaning net.now)) }
     requires moderate { Bounded N.Cost.CostKind.kind price_limit prices.now }
     requires few { length prices.now ≤ 256 }
-    requires long { length flow.now ≡ length (shown (meaning net.now)) }
-    ensures { Scanned N.Cost.CostKind.kind (shown (meaning net.now)) flow.now prices.now chosen labels.now (length (shown (meaning net.now))) result }
+    requires long { length flow.now ≡ length (shown (N.meaning net.now)) }
+    ensures { Scanned N.Cost.CostKind.kind (shown (N.meaning net.now)) flow.now prices.now chosen labels.now (length (shown (N.meaning net.now))) result }
 {
     let mut best = None;
     for i in 0..net.arcs() {
@@ -162,13 +162,13 @@ pub fn link<N: Network>(
     along: bool,
     labels: &mut Labels,
 )
-    requires fitting { Fitting N.Cost.CostKind.kind (length prices.now) (shown (meaning net.now)) }
+    requires fitting { Fitting N.Cost.CostKind.kind (length prices.now) (shown (N.meaning net.now)) }
     requires few { length prices.now ≤ 256 }
-    requires long { length flow.now ≡ length (shown (meaning net.now)) }
+    requires long { length flow.now ≡ length (shown (N.meaning net.now)) }
     requires short { i < length flow.now }
-    requires good { Good N.Cost.CostKind.kind (shown (meaning net.now)) flow.now prices.now chosen labels.old }
-    requires ripe { Ripe N.Cost.CostKind.kind (shown (meaning net.now)) flow.now prices.now chosen labels.old i along }
-    ensures good { Good N.Cost.CostKind.kind (shown (meaning net.now)) flow.now prices.now chosen labels.new }
+    requires good { Good N.Cost.CostKind.kind (shown (N.meaning net.now)) flow.now prices.now chosen labels.old }
+    requires ripe { Ripe N.Cost.CostKind.kind (shown (N.meaning net.now)) flow.now prices.now chosen labels.old i along }
+    ensures good { Good N.Cost.CostKind.kind (shown (N.meaning net.now)) flow.now prices.now chosen labels.new }
     ensures grown { Grown labels.old labels.new }
     ensures more { labels.new.count ≡ labels.old.count + 1 }
 {

@@ -47,9 +47,9 @@ fn any_large<C: CostKind>(prices: &[C]) -> bool
 
 // Tidies the prices where one is large.
 fn tame<N: Network>(net: &N, flow: &[i32], prices: &mut [N::Cost])
-    requires { Ready N.Cost.CostKind.kind (meaning net.now).nodes (shown (meaning net.now)) flow.now prices.old }
-    ensures ready { Ready N.Cost.CostKind.kind (meaning net.now).nodes (shown (meaning net.now)) flow.now prices.new }
-    ensures eased { Eased N.Cost.CostKind.kind (shown (meaning net.now)) flow.now prices.old prices.new }
+    requires { Ready N.Cost.CostKind.kind (N.meaning net.now).nodes (shown (N.meaning net.now)) flow.now prices.old }
+    ensures ready { Ready N.Cost.CostKind.kind (N.meaning net.now).nodes (shown (N.meaning net.now)) flow.now prices.new }
+    ensures eased { Eased N.Cost.CostKind.kind (shown (N.meaning net.now)) flow.now prices.old prices.new }
     ensures tame { Bounded N.Cost.CostKind.kind large prices.new }
 {
     if any_large(prices) {
@@ -59,9 +59,9 @@ fn tame<N: Network>(net: &N, flow: &[i32], prices: &mut [N::Cost])
 
 // The step that the arc after i wants; none where it is in kilter.
 fn wanted<N: Network>(net: &N, flow: &[i32], prices: &[N::Cost], i: usize) -> Option<Choice>
-    requires ready { Ready N.Cost.CostKind.kind (meaning net.now).nodes (shown (meaning net.now)) flow.now prices.now }
+    requires ready { Ready N.Cost.CostKind.kind (N.meaning net.now).nodes (shown (N.meaning net.now)) flow.now prices.now }
     requires arc { i < length flow.now }
-    ensures { MatchOption result (KilterAt N.Cost.CostKind.kind (shown (meaning net.now)) flow.now prices.now i) (λ x. Wanted N.Cost.CostKind.kind (meaning net.now).nodes (shown (meaning net.now)) flow.now prices.now i x.step x.source) }
+    ensures { MatchOption result (KilterAt N.Cost.CostKind.kind (shown (N.meaning net.now)) flow.now prices.now i) (λ x. Wanted N.Cost.CostKind.kind (N.meaning net.now).nodes (shown (N.meaning net.now)) flow.now prices.now i x.step x.source) }
 {
     let Some(arc) = net.arc(i + 1) else {
         return None;
@@ -107,12 +107,12 @@ pub fn attempt<N: Network>(
     i: usize,
     may_lap: bool,
 ) -> Tried
-    requires ready { Ready N.Cost.CostKind.kind (meaning net.now).nodes (shown (meaning net.now)) flow.old prices.old }
+    requires ready { Ready N.Cost.CostKind.kind (N.meaning net.now).nodes (shown (N.meaning net.now)) flow.old prices.old }
     requires arc { i < length flow.old }
-    requires marks { length marks.old ≡ (meaning net.now).nodes }
-    ensures ready { Ready N.Cost.CostKind.kind (meaning net.now).nodes (shown (meaning net.now)) flow.new prices.new }
-    ensures eased { Eased N.Cost.CostKind.kind (shown (meaning net.now)) flow.old prices.old prices.new }
-    ensures ends { Attempted N.Cost.CostKind.kind (shown (meaning net.now)) i flow.old flow.new prices.new marks.old marks.new result }
+    requires marks { length marks.old ≡ (N.meaning net.now).nodes }
+    ensures ready { Ready N.Cost.CostKind.kind (N.meaning net.now).nodes (shown (N.meaning net.now)) flow.new prices.new }
+    ensures eased { Eased N.Cost.CostKind.kind (shown (N.meaning net.now)) flow.old prices.old prices.new }
+    ensures ends { Attempted N.Cost.CostKind.kind (shown (N.meaning net.now)) i flow.old flow.new prices.new marks.old marks.new result }
     ensures spends { (result ≡ Tried.Lapped → may_lap ≡ true) × (result ≡ Tried.Short → may_lap ≡ false) }
 {
     tame(net, flow, prices);

@@ -25,11 +25,11 @@ fn bring_in<N: Network>(
     budget: u32,
     made: u32,
 ) -> End
-    requires ready { Ready N.Cost.CostKind.kind (meaning net.now).nodes (shown (meaning net.now)) flow.old prices.old }
+    requires ready { Ready N.Cost.CostKind.kind (N.meaning net.now).nodes (shown (N.meaning net.now)) flow.old prices.old }
     requires arc { i < length flow.old }
     requires spent { made ≤ budget }
-    requires marks { length marks.old ≡ (meaning net.now).nodes }
-    ensures { (found : List ℤ) → Going N.Cost.CostKind.kind (meaning net.now).nodes (shown (meaning net.now)) found i made flow.old prices.old → Ended N.Cost.CostKind.kind (meaning net.now).nodes (shown (meaning net.now)) found (i + 1) budget flow.new prices.new marks.old marks.new result }
+    requires marks { length marks.old ≡ (N.meaning net.now).nodes }
+    ensures { (found : List ℤ) → Going N.Cost.CostKind.kind (N.meaning net.now).nodes (shown (N.meaning net.now)) found i made flow.old prices.old → Ended N.Cost.CostKind.kind (N.meaning net.now).nodes (shown (N.meaning net.now)) found (i + 1) budget flow.new prices.new marks.old marks.new result }
 {
     let mut laps = made;
     loop {
@@ -50,9 +50,9 @@ pub fn seek<N: Network>(
     marks: &mut [u8],
     budget: u32,
 ) -> End
-    requires going { Going N.Cost.CostKind.kind (meaning net.now).nodes (shown (meaning net.now)) flow.old 0 0 flow.old prices.old }
-    requires marks { length marks.old ≡ (meaning net.now).nodes }
-    ensures { Ended N.Cost.CostKind.kind (meaning net.now).nodes (shown (meaning net.now)) flow.old (length flow.old) budget flow.new prices.new marks.old marks.new result }
+    requires going { Going N.Cost.CostKind.kind (N.meaning net.now).nodes (shown (N.meaning net.now)) flow.old 0 0 flow.old prices.old }
+    requires marks { length marks.old ≡ (N.meaning net.now).nodes }
+    ensures { Ended N.Cost.CostKind.kind (N.meaning net.now).nodes (shown (N.meaning net.now)) flow.old (length flow.old) budget flow.new prices.new marks.old marks.new result }
 {
     let mut laps = 0;
     for i in 0..flow.len() {

@@ -28,7 +28,7 @@ pub enum Answer<C> {
 
 // The largest size of an arc's cost.
 fn largest_cost<N: Network>(net: &N) -> u64
-    ensures { result ≡ largest Cost-as-CostKind.kind (shown (meaning net.now)) }
+    ensures { result ≡ largest N.Cost.CostKind.kind (shown (N.meaning net.now)) }
 {
     let mut most = 0;
     for i in 0..net.arcs() {
@@ -78,11 +78,11 @@ fn search<N: Network>(
     marks: &mut [u8],
     budget: u32,
 ) -> Found<N::Cost>
-    requires going { Going N.Cost.CostKind.kind (meaning net.now).nodes (shown (meaning net.now)) flow.old 0 0 flow.old prices.old }
+    requires going { Going N.Cost.CostKind.kind (N.meaning net.now).nodes (shown (N.meaning net.now)) flow.old 0 0 flow.old prices.old }
     requires few { length flow.old ≤ 1024 }
-    requires marks { length marks.old ≡ (meaning net.now).nodes }
-    ensures ended { Ended N.Cost.CostKind.kind (meaning net.now).nodes (shown (meaning net.now)) flow.old (length flow.old) budget flow.new prices.new marks.old marks.new result.end }
-    ensures total { result.total ≡ total_of (sums N.Cost.CostKind.kind) (shown (meaning net.now)) flow.new }
+    requires marks { length marks.old ≡ (N.meaning net.now).nodes }
+    ensures ended { Ended N.Cost.CostKind.kind (N.meaning net.now).nodes (shown (N.meaning net.now)) flow.old (length flow.old) budget flow.new prices.new marks.old marks.new result.end }
+    ensures total { result.total ≡ total_of (sums N.Cost.CostKind.kind) (shown (N.meaning net.now)) flow.new }
 {
     let end = seek(net, flow, prices, marks, budget);
     Found {
@@ -100,9 +100,9 @@ pub fn settle<N: Network>(
     marks: &mut [u8],
     budget: u32,
 ) -> Result<Answer<N::Cost>, Stop>
-    ensures stops { refusal result ≡ first_stop_of N.Cost.CostKind.kind.size (meaning net.now) flow.old needs.now (length prices.old) (length marks.old) }
-    ensures settles { Settled N.Cost.CostKind.kind (meaning net.now) budget (tables flow.old needs.now prices.old marks.old) result (tables flow.new needs.now prices.new marks.new) }
-    ensures words { Worded N.Cost.CostKind.kind (meaning net.now) budget (tables flow.old needs.now prices.old marks.old) result (tables flow.new needs.now prices.new marks.new) }
+    ensures stops { refusal result ≡ first_stop_of N.Cost.CostKind.kind.size (N.meaning net.now) flow.old needs.now (length prices.old) (length marks.old) }
+    ensures settles { Settled N.Cost.CostKind.kind (N.meaning net.now) budget (tables flow.old needs.now prices.old marks.old) result (tables flow.new needs.now prices.new marks.new) }
+    ensures words { Worded N.Cost.CostKind.kind (N.meaning net.now) budget (tables flow.old needs.now prices.old marks.old) result (tables flow.new needs.now prices.new marks.new) }
 {
     if let Some(stop) = first_stop(net, flow, needs, prices.len(), marks.len()) {
         return Err(stop);

@@ -72,10 +72,10 @@ fn choose<C: CostKind>(best: Option<Pick<C>>, more: Option<Pick<C>>) -> Option<P
 
 // The nearest node over all arcs between labelled and unlabelled nodes.
 fn nearest<N: Network>(net: &N, prices: &[N::Cost], marks: &[bool]) -> Option<Pick<N::Cost>>
-    requires fitting { Fitting N.Cost.CostKind.kind (length prices.now) (shown (meaning net.now)) }
+    requires fitting { Fitting N.Cost.CostKind.kind (length prices.now) (shown (N.meaning net.now)) }
     requires moderate { Bounded N.Cost.CostKind.kind price_limit prices.now }
     requires alike { length marks.now ≡ length prices.now }
-    ensures { result ≡ nearest_of N.Cost.CostKind.kind prices.now marks.now None (shown (meaning net.now)) }
+    ensures { result ≡ nearest_of N.Cost.CostKind.kind prices.now marks.now None (shown (N.meaning net.now)) }
 {
     let mut best = None;
     let count = net.arcs();
@@ -104,11 +104,11 @@ fn first_free(marks: &[bool]) -> usize
 
 // The node to label next.
 pub fn next_pick<N: Network>(net: &N, prices: &[N::Cost], marks: &[bool]) -> Pick<N::Cost>
-    requires fitting { Fitting N.Cost.CostKind.kind (length prices.now) (shown (meaning net.now)) }
+    requires fitting { Fitting N.Cost.CostKind.kind (length prices.now) (shown (N.meaning net.now)) }
     requires moderate { Bounded N.Cost.CostKind.kind price_limit prices.now }
     requires alike { length marks.now ≡ length prices.now }
     requires some { 1 ≤ unmarked marks.now }
-    ensures { GoodPick N.Cost.CostKind.kind (shown (meaning net.now)) marks.now prices.now result }
+    ensures { GoodPick N.Cost.CostKind.kind (shown (N.meaning net.now)) marks.now prices.now result }
 {
     match nearest(net, prices, marks) {
         Some(p) => p,

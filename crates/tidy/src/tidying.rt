@@ -27,11 +27,11 @@ fn raise<C: CostKind>(prices: &mut [C], marks: &[bool], by: C)
 // Labels every node in turn, with marks lent for it of which none is set.
 fn label_all<N: Network>(net: &N, prices: &mut [N::Cost], marks: &mut [bool])
     requires few { length prices.old ≤ 256 }
-    requires fitting { Fitting N.Cost.CostKind.kind (length prices.old) (shown (meaning net.now)) }
+    requires fitting { Fitting N.Cost.CostKind.kind (length prices.old) (shown (N.meaning net.now)) }
     requires moderate { Bounded N.Cost.CostKind.kind found_limit prices.old }
     requires alike { length marks.old ≡ length prices.old }
     requires clear { unmarked marks.old ≡ length marks.old }
-    ensures { Tidied N.Cost.CostKind.kind (shown (meaning net.now)) prices.old prices.new }
+    ensures { Tidied N.Cost.CostKind.kind (shown (N.meaning net.now)) prices.old prices.new }
 {
     for i in 0..prices.len() {
         let p = next_pick(net, prices, marks);
@@ -43,9 +43,9 @@ fn label_all<N: Network>(net: &N, prices: &mut [N::Cost], marks: &mut [bool])
 // Makes the prices small, and turns the sign of no reduced cost.
 pub fn tidy<N: Network>(net: &N, prices: &mut [N::Cost])
     requires few { length prices.old ≤ 256 }
-    requires fitting { Fitting N.Cost.CostKind.kind (length prices.old) (shown (meaning net.now)) }
+    requires fitting { Fitting N.Cost.CostKind.kind (length prices.old) (shown (N.meaning net.now)) }
     requires moderate { Bounded N.Cost.CostKind.kind found_limit prices.old }
-    ensures { Tidied N.Cost.CostKind.kind (shown (meaning net.now)) prices.old prices.new }
+    ensures { Tidied N.Cost.CostKind.kind (shown (N.meaning net.now)) prices.old prices.new }
 {
     let mut marks = [false; 256];
     let n = prices.len();

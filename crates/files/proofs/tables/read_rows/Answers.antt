@@ -5,10 +5,10 @@ use Rattle.files.specs.Tables.{rows_in, rows_of}
 use Rattle.files.proofs.Rows.{row_step, row_fault, rows_done}
 use Rattle.files.proofs.tables.read_rows.Goals as goal
 
-pub returns-in-err-read : goal.returns-in-err-read
-returns-in-err-read g c =
-    let p = err_from_is_err_and c.from-residual.result c.from-residual.ensures.1 in
-    let f = row_fault g.C.FileCost.numbers _ c.args.header.arcs c.loop-i.i _ _ _ _ (omega arith) c.in-err-read.ensures.is c.loop-i.invariant.0 in
+pub returns-in_err-read : goal.returns-in_err-read
+returns-in_err-read g c =
+    let p = err_from_is_err_and c.from_residual.result c.from_residual.ensures.1 in
+    let f = row_fault g.C.FileCost.numbers _ c.args.header.arcs c.loop-i.i _ _ _ _ (omega arith) c.in_err-read.ensures.is c.loop-i.invariant.0 in
     record { is = rw (p.1, p.2) (ap rows_of f); past = c.loop-i.invariant.1 }
 
 pub offset-bounds-rows-i : goal.offset-bounds-rows-i
@@ -17,9 +17,9 @@ offset-bounds-rows-i g c = let h : c.loop-i.i < length c.args.rows.now = omega a
 pub loop-i-preserved : goal.loop-i-preserved
 loop-i-preserved g c =
     let i = c.loop-i.i in
-    let r = c.in-ok-read.read in
-    let s = row_step g.C.FileCost.numbers _ c.args.header.arcs i _ _ _ _ r _ (omega arith) c.in-ok-read.ensures.is
-    (take_more_set c.loop-i.rows i r.row (omega arith)) c.split-at.ensures.back c.loop-i.invariant.0 in
+    let r = c.in_ok-read.read in
+    let s = row_step g.C.FileCost.numbers _ c.args.header.arcs i _ _ _ _ r _ (omega arith) c.in_ok-read.ensures.is
+    (take_more_set c.loop-i.rows i r.row (omega arith)) c.split_at.ensures.back c.loop-i.invariant.0 in
     (s, drop-set-lt c.args.header.arcs c.loop-i.rows i r.row (omega arith) ∙ c.loop-i.invariant.1)
 
 pub returns : goal.returns

@@ -5,14 +5,14 @@ use Rattle.files.proofs.tables.read_table.Goals as goal
 
 pub returns : goal.returns
 returns g c =
-    let first = c.in-ok-first.first in
+    let first = c.in_ok-first.first in
     let old = c.args.rows.now in
-    let rows = c.read-rows.new.rows in
-    let d = table_done g.C.FileCost.numbers c.tiers-tiers.result c.args.text.now c.split-at.result.1.now first old rows
-    c.tiers-tiers.ensures c.in-ok-first.ensures.is c.split-at.ensures.back (omega arith)
-    c.in-ok-check-body.ensures c.in-ok-read-rows.ensures.is in
+    let rows = c.read_rows.new.rows in
+    let d = table_done g.C.FileCost.numbers c.tiers-tiers.result c.args.text.now c.split_at.result.1.now first old rows
+    c.tiers-tiers.ensures c.in_ok-first.ensures.is c.split_at.ensures.back (omega arith)
+    c.in_ok-check_body.ensures c.in_ok-read_rows.ensures.is in
     record {
-      fit = (c.in-ok-first.ensures.within.1, omega arith);
+      fit = (c.in_ok-first.ensures.within.1, omega arith);
       is = ap header_of (sym d);
-      leaves = table_rows first.header.arcs old rows (omega arith) c.in-ok-read-rows.ensures.past ∙ ap (rows_after old) (sym d);
+      leaves = table_rows first.header.arcs old rows (omega arith) c.in_ok-read_rows.ensures.past ∙ ap (rows_after old) (sym d);
     }

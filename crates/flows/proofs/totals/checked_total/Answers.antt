@@ -19,8 +19,8 @@ returns-in-default g c =
     let e = sym (running_short (sums K) n c.loop-i.i (drop c.loop-i.i flow) c.loop-i.all c.in-default.ensures) ∙ c.loop-i.invariant in
     record { running = e; within = λ few fit small. e ∙ total_within K g.met.Cost.CostKind.lawful n.nodes (shown n) flow few fit small }
 
-pub returns-in-err-all : goal.returns-in-err-all
-returns-in-err-all g c =
+pub returns-in_err-all : goal.returns-in_err-all
+returns-in_err-all g c =
     let K = g.Cost.CostKind.kind in
     let n = g.N.Network.meaning c.args.net.now in
     let flow = c.args.flow.now in
@@ -28,8 +28,8 @@ returns-in-err-all g c =
     let f : SFits w32 (get_or flow i (pos 0)) = search rules in
     let is = simp to_z-of_z at c.added.ensures in
     let more = running_more (sums K) i (shown n) flow c.in-Some.arc (get_or flow i (pos 0)) c.loop-i.all c.added.result (arc_first n i c.in-Some.arc c.in-Some.ensures) (drop_more flow i (pos 0) (omega arith)) is in
-    let off = ap (λ o. and_then o (λ s. running_total (sums K) s (drop (i + 1) (shown n)) (drop (i + 1) flow))) c.in-err-all.was in
-    let e = c.from-residual.ensures ∙ sym off ∙ sym more ∙ c.loop-i.invariant in
+    let off = ap (λ o. and_then o (λ s. running_total (sums K) s (drop (i + 1) (shown n)) (drop (i + 1) flow))) c.in_err-all.was in
+    let e = c.from_residual.ensures ∙ sym off ∙ sym more ∙ c.loop-i.invariant in
     record { running = e; within = λ few fit small. e ∙ total_within K g.met.Cost.CostKind.lawful n.nodes (shown n) flow few fit small }
 
 pub loop-i-preserved : goal.loop-i-preserved
@@ -41,7 +41,7 @@ loop-i-preserved g c =
     let f : SFits w32 (get_or flow i (pos 0)) = search rules in
     let is = simp to_z-of_z at c.added.ensures in
     let more = running_more (sums K) i (shown n) flow c.in-Some.arc (get_or flow i (pos 0)) c.loop-i.all c.added.result (arc_first n i c.in-Some.arc c.in-Some.ensures) (drop_more flow i (pos 0) (omega arith)) is in
-    let on = ap (λ o. and_then o (λ s. running_total (sums K) s (drop (i + 1) (shown n)) (drop (i + 1) flow))) c.in-ok-all.was in
+    let on = ap (λ o. and_then o (λ s. running_total (sums K) s (drop (i + 1) (shown n)) (drop (i + 1) flow))) c.in_ok-all.was in
     sym on ∙ sym more ∙ c.loop-i.invariant
 
 pub returns : goal.returns

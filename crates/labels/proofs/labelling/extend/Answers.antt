@@ -56,7 +56,7 @@ push-requires g c =
     let f : SFits w32 (get_or flow i (pos 0)) = search rules in
     let out = outward_is a (node_at ls c.args.at) ls along c.in-Some-outward.ensures in
     let moves = ap (λ z. may_at K z a along (get_or flow i (pos 0))) (sym c.reduced.ensures.value) ∙ sym (simp to_z-of_z at c.if-not-may.ensures) in
-    let e = c.far-end-far.ensures in
+    let e = c.far_end-far.ensures in
     record {
       room = new_room K arcs flow prices c.args.chosen c.requires.few ls c.requires.good c.args.at i c.requires.place c.if-i-chosen.false a is fit along out.0 out.1 moves;
       low = subst (λ z. 1 ≤ z) (sym e) (new_low K arcs flow prices c.args.chosen c.requires.few ls c.requires.good c.args.at i c.requires.place c.if-i-chosen.false a is fit along out.0 out.1 moves);
@@ -80,7 +80,7 @@ returns g c =
     let out = outward_is a (node_at ls c.args.at) ls along c.in-Some-outward.ensures in
     let moves = ap (λ z. may_at K z a along (get_or flow i (pos 0))) (sym c.reduced.ensures.value) ∙ sym (simp to_z-of_z at c.if-not-may.ensures) in
     let made : c.push.new.labels ≡ pushed ls (record { node = far a along; parent = c.args.at; step = record { node = node_at ls c.args.at; arc = i; along = along } }) =
-    c.push.ensures ∙ ap (λ (z : ℕ). pushed ls (record { node = z; parent = c.args.at; step = record { node = node_at ls c.args.at; arc = i; along = along } })) c.far-end-far.ensures in
+    c.push.ensures ∙ ap (λ (z : ℕ). pushed ls (record { node = z; parent = c.args.at; step = record { node = node_at ls c.args.at; arc = i; along = along } })) c.far_end-far.ensures in
     record {
       good = subst (Good K arcs flow prices c.args.chosen) (sym made) (new_good K arcs flow prices c.args.chosen c.requires.few ls c.requires.good c.args.at i c.requires.place c.if-i-chosen.false a is fit along out.0 out.1 moves);
       grown = subst (Grown ls) (sym made) (new_grown K arcs flow prices c.args.chosen c.requires.few ls c.requires.good c.args.at i c.requires.place c.if-i-chosen.false a is fit along out.0 out.1 moves);

@@ -18,8 +18,8 @@ trace-start-requires g c =
     let h = c.requires.good.whole.holds c.args.chosen.node c.requires.node.0 c.requires.reached in
     record { back = λ k l m. (c.requires.good.linked k l m).earlier; few = c.requires.good.whole.few; place = omega (arith, h.0, c.requires.reached) }
 
-pub least-room-amount-requires : goal.least-room-amount-requires
-least-room-amount-requires g c =
+pub least_room-amount-requires : goal.least_room-amount-requires
+least_room-amount-requires g c =
     let K = g.Cost.CostKind.kind in
     let arcs = shown (g.N.Network.meaning c.args.net.now) in
     let s = c.args.chosen in
@@ -47,11 +47,11 @@ send-requires g c =
     let r = c.trace-start.result in
     let steps = c.trace-start.new.steps in
     let e = part steps r s c.trace-start.array_long c.trace-start.ensures.first in
-    let x = c.least-room-amount.result in
-    let f : SFits w32 c.least-room-amount.result = search rules in
+    let x = c.least_room-amount.result in
+    let f : SFits w32 c.least_room-amount.result = search rules in
     subst (λ z. Steady (to_z w32 (of_z w32 x)) z c.args.flow.now) (sym e) (subst (λ z. Steady z (s ∷ drop (r + 1) steps) c.args.flow.now) (sym (to_z-of_z w32 x f))
     (steady K g.met.Cost.CostKind.lawful arcs c.args.flow.now c.args.prices.now c.requires.fitting s ls c.requires.good (place_of ls s.node - 1) (omega (arith, h.0, c.requires.reached)) h.1 (drop (r + 1) steps) c.trace-start.ensures.rest c.requires.long c.requires.small c.requires.chosen
-    x c.least-room-amount.ensures.low (subst (All (FitsIn K arcs c.args.flow.now c.args.prices.now x)) e c.least-room-amount.ensures.least)).0)
+    x c.least_room-amount.ensures.low (subst (All (FitsIn K arcs c.args.flow.now c.args.prices.now x)) e c.least_room-amount.ensures.least)).0)
 
 pub returns : goal.returns
 returns g c =
@@ -63,8 +63,8 @@ returns g c =
     let r = c.trace-start.result in
     let steps = c.trace-start.new.steps in
     let e = part steps r s c.trace-start.array_long c.trace-start.ensures.first in
-    let x = c.least-room-amount.result in
-    let f : SFits w32 c.least-room-amount.result = search rules in
+    let x = c.least_room-amount.result in
+    let f : SFits w32 c.least_room-amount.result = search rules in
     gone K g.met.Cost.CostKind.lawful arcs c.args.flow.now c.args.prices.now c.requires.fitting s ls c.requires.good (place_of ls s.node - 1) (omega (arith, h.0, c.requires.reached)) h.1 (drop (r + 1) steps) c.trace-start.ensures.rest c.requires.long c.requires.small c.requires.chosen
-    x c.send.new.flow c.least-room-amount.ensures.low (subst (All (FitsIn K arcs c.args.flow.now c.args.prices.now x)) e c.least-room-amount.ensures.least)
+    x c.send.new.flow c.least_room-amount.ensures.low (subst (All (FitsIn K arcs c.args.flow.now c.args.prices.now x)) e c.least_room-amount.ensures.least)
     (c.send.ensures ∙ ap (λ z. sent z (take (256 - r) (drop r steps)) c.args.flow.now) (to_z-of_z w32 x f) ∙ ap (λ z. sent x z c.args.flow.now) e)

@@ -14,5 +14,5 @@ returns g c =
     let h = c.in-default.ensures in
     let n = g.N.Network.meaning c.args.net.now in
     run_made g.Cost.CostKind.kind (state n c.args.flow.now c.args.needs.now c.args.prices.now c.args.marks.now) c.args.tags.now.places c.args.offers.now c.args.calls.now c.args.outcomes.now g.met.Cost.CostKind.lawful c.in-default.field-0
-    (state n c.args.flow.now c.open.new.needs c.args.prices.now c.args.marks.now) (state (g.N.Network.meaning c.make-all.new.net) c.make-all.new.flow c.open.new.needs c.make-all.new.prices c.make-all.new.marks)
-    c.make-all.new.tags.places c.make-all.new.outcomes c.make-all.result h.stops h.leaves c.make-all.ensures
+    (state n c.args.flow.now c.open.new.needs c.args.prices.now c.args.marks.now) (state (g.N.Network.meaning c.make_all.new.net) c.make_all.new.flow c.open.new.needs c.make_all.new.prices c.make_all.new.marks)
+    c.make_all.new.tags.places c.make_all.new.outcomes c.make_all.result h.stops h.leaves c.make_all.ensures

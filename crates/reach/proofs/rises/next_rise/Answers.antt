@@ -27,4 +27,4 @@ returns g c a is =
     let q : b ≡ a = same_at (shown net) i b a (arc_is net i b c.in-Some.ensures) is in
     let f : SFits w32 (get_or c.args.flow.now c.args.chosen.arc (pos 0)) = search rules in
     c.lesser.ensures ∙ ap (λ o. next_of K o c.args.best)
-    (simp to_z-of_z at c.own-limit.ensures ∙ ap (λ z. own_limit_at K z b along x) c.reduced-c.ensures.value ∙ ap (λ z. own_limit_at K (reduced K c.args.prices.now z) z along x) q)
+    (simp to_z-of_z at c.own_limit.ensures ∙ ap (λ z. own_limit_at K z b along x) c.reduced-c.ensures.value ∙ ap (λ z. own_limit_at K (reduced K c.args.prices.now z) z along x) q)

@@ -16,7 +16,7 @@ overflow-sub-parent g c =
     let arcs = shown (g.N.Network.meaning c.args.net.now) in
     let a = c.in-Some.arc in
     let is = arc_is (g.N.Network.meaning c.args.net.now) c.args.i a c.in-Some.ensures in
-    let r = ready_to K arcs c.args.flow.now c.args.prices.now c.args.chosen c.args.labels.now c.args.i a c.args.along c.far-end-near.result c.requires.good c.requires.fitting is c.requires.ripe c.far-end-near.ensures in
+    let r = ready_to K arcs c.args.flow.now c.args.prices.now c.args.chosen c.args.labels.now c.args.i a c.args.along c.far_end-near.result c.requires.good c.requires.fitting is c.requires.ripe c.far_end-near.ensures in
     r.low
 
 pub offset-bounds-labels-near : goal.offset-bounds-labels-near
@@ -25,7 +25,7 @@ offset-bounds-labels-near g c =
     let arcs = shown (g.N.Network.meaning c.args.net.now) in
     let a = c.in-Some.arc in
     let is = arc_is (g.N.Network.meaning c.args.net.now) c.args.i a c.in-Some.ensures in
-    let r = ready_to K arcs c.args.flow.now c.args.prices.now c.args.chosen c.args.labels.now c.args.i a c.args.along c.far-end-near.result c.requires.good c.requires.fitting is c.requires.ripe c.far-end-near.ensures in
+    let r = ready_to K arcs c.args.flow.now c.args.prices.now c.args.chosen c.args.labels.now c.args.i a c.args.along c.far_end-near.result c.requires.good c.requires.fitting is c.requires.ripe c.far_end-near.ensures in
     let h = r.high in let k = c.requires.few in omega arith
 
 pub bounds-labels-near : goal.bounds-labels-near
@@ -34,7 +34,7 @@ bounds-labels-near g c =
     let arcs = shown (g.N.Network.meaning c.args.net.now) in
     let a = c.in-Some.arc in
     let is = arc_is (g.N.Network.meaning c.args.net.now) c.args.i a c.in-Some.ensures in
-    let r = ready_to K arcs c.args.flow.now c.args.prices.now c.args.chosen c.args.labels.now c.args.i a c.args.along c.far-end-near.result c.requires.good c.requires.fitting is c.requires.ripe c.far-end-near.ensures in
+    let r = ready_to K arcs c.args.flow.now c.args.prices.now c.args.chosen c.args.labels.now c.args.i a c.args.along c.far_end-near.result c.requires.good c.requires.fitting is c.requires.ripe c.far_end-near.ensures in
     let h = r.high in let k = c.requires.few in let l = r.low in omega arith
 
 pub overflow-sub-parent-2 : goal.overflow-sub-parent-2
@@ -43,7 +43,7 @@ overflow-sub-parent-2 g c =
     let arcs = shown (g.N.Network.meaning c.args.net.now) in
     let a = c.in-Some.arc in
     let is = arc_is (g.N.Network.meaning c.args.net.now) c.args.i a c.in-Some.ensures in
-    let r = ready_to K arcs c.args.flow.now c.args.prices.now c.args.chosen c.args.labels.now c.args.i a c.args.along c.far-end-near.result c.requires.good c.requires.fitting is c.requires.ripe c.far-end-near.ensures in
+    let r = ready_to K arcs c.args.flow.now c.args.prices.now c.args.chosen c.args.labels.now c.args.i a c.args.along c.far_end-near.result c.requires.good c.requires.fitting is c.requires.ripe c.far_end-near.ensures in
     r.labelled
 
 pub push-requires : goal.push-requires
@@ -52,10 +52,10 @@ push-requires g c =
     let arcs = shown (g.N.Network.meaning c.args.net.now) in
     let a = c.in-Some.arc in
     let is = arc_is (g.N.Network.meaning c.args.net.now) c.args.i a c.in-Some.ensures in
-    let r = ready_to K arcs c.args.flow.now c.args.prices.now c.args.chosen c.args.labels.now c.args.i a c.args.along c.far-end-near.result c.requires.good c.requires.fitting is c.requires.ripe c.far-end-near.ensures in
+    let r = ready_to K arcs c.args.flow.now c.args.prices.now c.args.chosen c.args.labels.now c.args.i a c.args.along c.far_end-near.result c.requires.good c.requires.fitting is c.requires.ripe c.far_end-near.ensures in
     let ls = c.args.labels.now in
-    let n = c.far-end-near.result in
-    let e = c.far-end-node.ensures in
+    let n = c.far_end-near.result in
+    let e = c.far_end-node.ensures in
     record {
       room = new_room K arcs c.args.flow.now c.args.prices.now c.args.chosen c.requires.few ls c.requires.good (place_of ls n - 1) c.args.i r.place c.requires.ripe.1.other a is (c.requires.fitting c.args.i a is) c.args.along r.here r.fresh r.moves;
       low = subst (λ z. 1 ≤ z) (sym e) (new_low K arcs c.args.flow.now c.args.prices.now c.args.chosen c.requires.few ls c.requires.good (place_of ls n - 1) c.args.i r.place c.requires.ripe.1.other a is (c.requires.fitting c.args.i a is) c.args.along r.here r.fresh r.moves);
@@ -68,12 +68,12 @@ returns g c =
     let arcs = shown (g.N.Network.meaning c.args.net.now) in
     let a = c.in-Some.arc in
     let is = arc_is (g.N.Network.meaning c.args.net.now) c.args.i a c.in-Some.ensures in
-    let r = ready_to K arcs c.args.flow.now c.args.prices.now c.args.chosen c.args.labels.now c.args.i a c.args.along c.far-end-near.result c.requires.good c.requires.fitting is c.requires.ripe c.far-end-near.ensures in
+    let r = ready_to K arcs c.args.flow.now c.args.prices.now c.args.chosen c.args.labels.now c.args.i a c.args.along c.far_end-near.result c.requires.good c.requires.fitting is c.requires.ripe c.far_end-near.ensures in
     let ls = c.args.labels.now in
-    let n = c.far-end-near.result in
+    let n = c.far_end-near.result in
     let at = place_of ls n - 1 in
     let made : c.push.new.labels ≡ pushed ls (record { node = far a c.args.along; parent = at; step = record { node = node_at ls at; arc = c.args.i; along = c.args.along } })
-    = c.push.ensures ∙ ap (λ (z : ℕ). pushed ls (record { node = z; parent = at; step = record { node = n; arc = c.args.i; along = c.args.along } })) c.far-end-node.ensures
+    = c.push.ensures ∙ ap (λ (z : ℕ). pushed ls (record { node = z; parent = at; step = record { node = n; arc = c.args.i; along = c.args.along } })) c.far_end-node.ensures
     ∙ ap (λ (z : ℕ). pushed ls (record { node = far a c.args.along; parent = at; step = record { node = z; arc = c.args.i; along = c.args.along } })) (sym r.node) in
     record {
       good = subst (Good K arcs c.args.flow.now c.args.prices.now c.args.chosen) (sym made) (new_good K arcs c.args.flow.now c.args.prices.now c.args.chosen c.requires.few ls c.requires.good (place_of ls n - 1) c.args.i r.place c.requires.ripe.1.other a is (c.requires.fitting c.args.i a is) c.args.along r.here r.fresh r.moves);

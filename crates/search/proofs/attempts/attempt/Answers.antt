@@ -48,8 +48,8 @@ reach-requires g c =
       chosen = subst (Chosen K arcs flow qs step) (sym b.starts) want.chosen;
     }
 
-pub returns-then-not-may-lap : goal.returns-then-not-may-lap
-returns-then-not-may-lap g c =
+pub returns-then-not-may_lap : goal.returns-then-not-may_lap
+returns-then-not-may_lap g c =
     let K = g.Cost.CostKind.kind in
     let laws = g.met.Cost.CostKind.lawful in
     let n = g.N.Network.meaning c.args.net.now in
@@ -70,7 +70,7 @@ returns-then-not-may-lap g c =
       ready = after;
       eased = eased;
       ends = (refl, at_hand K laws arcs flow rs (subst (λ z. Fitting K z arcs) (sym after.priced) after.fitting) after.long after.small step c.reach.new.labels want.node.0 c.in-Reached.ensures.ends, refl);
-      spends = ((λ e. absurd (let z : ◌≡◌ {A = ℕ} 0 1 = cc in omega arith)), (λ _. c.if-not-may-lap.true));
+      spends = ((λ e. absurd (let z : ◌≡◌ {A = ℕ} 0 1 = cc in omega arith)), (λ _. c.if-not-may_lap.true));
     }
 
 pub returns-in-Kilter : goal.returns-in-Kilter
@@ -156,8 +156,8 @@ lap-requires g c =
       chosen = found.wanted;
     }
 
-pub returns-else-not-may-lap : goal.returns-else-not-may-lap
-returns-else-not-may-lap g c =
+pub returns-else-not-may_lap : goal.returns-else-not-may_lap
+returns-else-not-may_lap g c =
     let K = g.Cost.CostKind.kind in
     let laws = g.met.Cost.CostKind.lawful in
     let n = g.N.Network.meaning c.args.net.now in
@@ -179,5 +179,5 @@ returns-else-not-may-lap g c =
       ready = record { fitting = after.fitting; few = after.few; priced = after.priced; bounded = after.bounded; long = r.long ∙ after.long; small = r.small };
       eased = eased;
       ends = (r, refl);
-      spends = ((λ _. c.if-not-may-lap.false), (λ e. absurd (let z : ◌≡◌ {A = ℕ} 0 1 = cc in omega arith)));
+      spends = ((λ _. c.if-not-may_lap.false), (λ e. absurd (let z : ◌≡◌ {A = ℕ} 0 1 = cc in omega arith)));
     }

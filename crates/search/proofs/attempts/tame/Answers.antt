@@ -11,8 +11,8 @@ tidy-requires g c = record {
   moderate = c.requires.bounded;
 }
 
-pub returns-then-any-large : goal.returns-then-any-large
-returns-then-any-large g c =
+pub returns-then-any_large : goal.returns-then-any_large
+returns-then-any_large g c =
     let K = g.Cost.CostKind.kind in
     let n = g.N.Network.meaning c.args.net.now in
     let t = c.tidy.ensures in
@@ -22,8 +22,8 @@ returns-then-any-large g c =
       tame = tidied_tame K n.nodes (shown n) c.args.flow.now c.args.prices.now c.tidy.new.prices c.requires t;
     }
 
-pub returns-else-any-large : goal.returns-else-any-large
-returns-else-any-large g c =
+pub returns-else-any_large : goal.returns-else-any_large
+returns-else-any_large g c =
     let K = g.Cost.CostKind.kind in
     let n = g.N.Network.meaning c.args.net.now in
-    record { ready = c.requires; eased = eased_same K (shown n) c.args.flow.now c.args.prices.now c.requires.long; tame = c.any-large.ensures c.if-any-large.false }
+    record { ready = c.requires; eased = eased_same K (shown n) c.args.flow.now c.args.prices.now c.requires.long; tame = c.any_large.ensures c.if-any_large.false }

@@ -39,5 +39,5 @@ returns g c =
     let a = c.in-Some.arc in
     let is = arc_is n c.args.i a c.in-Some.ensures in
     let f : SFits w32 (get_or c.args.flow.now c.args.i (pos 0)) = search rules in
-    wanted_is K g.met.Cost.CostKind.lawful n.nodes (shown n) c.args.flow.now c.args.prices.now c.args.i a c.in-Some-amiss.along c.far-end-node.result c.far-end-source.result is (c.requires.ready.fitting c.args.i a is) c.requires.ready.long
-    (simp to_z-of_z at c.in-Some-amiss.ensures.way ∙ ap (λ z. way K z a (get_or c.args.flow.now c.args.i (pos 0))) c.reduced.ensures.value) c.far-end-source.ensures c.far-end-node.ensures
+    wanted_is K g.met.Cost.CostKind.lawful n.nodes (shown n) c.args.flow.now c.args.prices.now c.args.i a c.in-Some-amiss.along c.far_end-node.result c.far_end-source.result is (c.requires.ready.fitting c.args.i a is) c.requires.ready.long
+    (simp to_z-of_z at c.in-Some-amiss.ensures.way ∙ ap (λ z. way K z a (get_or c.args.flow.now c.args.i (pos 0))) c.reduced.ensures.value) c.far_end-source.ensures c.far_end-node.ensures

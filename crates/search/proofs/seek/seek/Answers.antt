@@ -6,8 +6,8 @@ use Rattle.search.proofs.seek.seek.Goals as goal
 pub loop-i-init : goal.loop-i-init
 loop-i-init g c = (c.requires.going, omega arith, refl, refl)
 
-pub bring-in-requires : goal.bring-in-requires
-bring-in-requires g c = record { ready = c.loop-i.invariant.0.ready; arc = omega (arith, c.loop-i.invariant.3); spent = c.loop-i.invariant.1; marks = ap length c.loop-i.invariant.2 ∙ c.requires.marks }
+pub bring_in-requires : goal.bring_in-requires
+bring_in-requires g c = record { ready = c.loop-i.invariant.0.ready; arc = omega (arith, c.loop-i.invariant.3); spent = c.loop-i.invariant.1; marks = ap length c.loop-i.invariant.2 ∙ c.requires.marks }
 
 pub loop-i-preserved : goal.loop-i-preserved
 loop-i-preserved g c =
@@ -16,7 +16,7 @@ loop-i-preserved g c =
     let found = c.args.flow.now in
     let inv = c.loop-i.invariant in
     let e = c.in-Kilter.ensures found inv.0 in
-    (e.0, e.1, e.2 ∙ inv.2, c.bring-in.auto.flow ∙ inv.3)
+    (e.0, e.1, e.2 ∙ inv.2, c.bring_in.auto.flow ∙ inv.3)
 
 pub returns-in-Paused : goal.returns-in-Paused
 returns-in-Paused g c =

@@ -12,9 +12,9 @@ loop-i-preserved g c =
     let old = c.args.prices.now in
     let spot : i < length ps = omega (arith, c.loop-i.invariant.0) in
     let e = get_or_read ps i c.index-prices-i.result spot c.index-prices-i.is K.zero ∙ c.loop-i.invariant.2 i (omega arith) in (
-      length-set ps i c.read-price.result ∙ c.loop-i.invariant.0,
-      written (λ k p. p ≡ read_price_as K c.args.limit (get_or old k K.zero)) ps i c.read-price.result K.zero spot c.loop-i.invariant.1 (c.read-price.ensures ∙ ap (read_price_as K c.args.limit) e),
-      unwritten ps old i c.read-price.result K.zero c.loop-i.invariant.2,
+      length-set ps i c.read_price.result ∙ c.loop-i.invariant.0,
+      written (λ k p. p ≡ read_price_as K c.args.limit (get_or old k K.zero)) ps i c.read_price.result K.zero spot c.loop-i.invariant.1 (c.read_price.ensures ∙ ap (read_price_as K c.args.limit) e),
+      unwritten ps old i c.read_price.result K.zero c.loop-i.invariant.2,
     )
 
 pub returns : goal.returns

@@ -24,8 +24,8 @@ overflow-mul-most g c =
     let marks = c.args.marks.now in
     let p = no_stop K n flow needs' (length ps) (length marks) (sym c.in-default.ensures) in
     let l = some_limit K laws n flow needs' (length ps) (length marks) p (length ps) p.prices-long in
-    let e = ap (λ z. (length ps - 1) * z) c.largest-cost.ensures in
-    let h : (length ps - 1) * c.largest-cost.result < 2 ^ 64 = omega (arith, l, e) in
+    let e = ap (λ z. (length ps - 1) * z) c.largest_cost.ensures in
+    let h : (length ps - 1) * c.largest_cost.result < 2 ^ 64 = omega (arith, l, e) in
     search rules
 
 pub save-saved-requires : goal.save-saved-requires
@@ -51,7 +51,7 @@ search-found-requires g c =
     let marks = c.args.marks.now in
     let p = no_stop K n flow needs' (length ps) (length marks) (sym c.in-default.ensures) in
     record {
-      going = going_start K laws n flow needs' (length ps) (length marks) p ps c.read-prices.new.prices _ p.prices-long c.read-prices.auto.prices (ap (λ z. (length ps - 1) * z) c.largest-cost.ensures) c.read-prices.ensures;
+      going = going_start K laws n flow needs' (length ps) (length marks) p ps c.read_prices.new.prices _ p.prices-long c.read_prices.auto.prices (ap (λ z. (length ps - 1) * z) c.largest_cost.ensures) c.read_prices.ensures;
       few = omega (arith, p.flow-long, p.few-arcs);
       marks = c.clear.auto.marks ∙ p.marks-long;
     }

@@ -2,8 +2,8 @@ use Rattle.std.proofs.Common.{length, rules}
 use Rattle.tidy.proofs.Marks.{all_clear, front_long}
 use Rattle.tidy.proofs.tidying.tidy.Goals as goal
 
-pub label-all-requires : goal.label-all-requires
-label-all-requires g c = record {
+pub label_all-requires : goal.label_all-requires
+label_all-requires g c = record {
   few = c.requires.few;
   fitting = c.requires.fitting;
   moderate = c.requires.moderate;

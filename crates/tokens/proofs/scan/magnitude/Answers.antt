@@ -19,7 +19,7 @@ loop-b-preserved c =
     let xs = c.args.digits.now in
     let i = c.loop-b.b-index in
     let v = c.loop-b.v in
-    let x : c.from.result ≡ get_or xs i 0 - 48 = c.from.ensures ∙ c.saturating-sub.ensures in
+    let x : c.from.result ≡ get_or xs i 0 - 48 = c.from.ensures ∙ c.saturating_sub.ensures in
     let t : 10 ^ (i + 1) ≡ 10 * 10 ^ i = next_ten i in
     let p : decimal v (drop i xs) ≡ decimal (v * 10 + (get_or xs i 0 - 48)) (drop (i + 1) xs) = at_drop_more (decimal v) xs i 0 (omega arith) in
     (omega arith, ap (λ (n : ℕ). decimal (v * 10 + n) (drop (i + 1) xs)) x ∙ sym p ∙ c.loop-b.invariant.1)

@@ -15,7 +15,7 @@ returns-in-Own g c =
     let t = c.args.self.now in
     let n = g.N.Network.meaning t.below in
     let at = c.in-Own.ensures in
-    let is = c.entry-arc.ensures ∙ ap₂ (λ k z. entry_arc k z c.at.result) c.nodes.ensures c.zero.ensures in
+    let is = c.entry_arc.ensures ∙ ap₂ (λ k z. entry_arc k z c.at.result) c.nodes.ensures c.zero.ensures in
     ap Some is ∙ arc_entry n g.N.Cost.CostKind.kind.zero (entries_of t.entries) t.span t.cost at.0 c.args.a c.in-Own.i c.at.result at.1.0 at.1.1 c.at.ensures
 
 pub returns-in-Back : goal.returns-in-Back
@@ -23,7 +23,7 @@ returns-in-Back g c =
     let t = c.args.self.now in
     let n = g.N.Network.meaning t.below in
     let at = c.in-Back.ensures in
-    let is = c.return-arc.ensures ∙ ap (λ k. return_arc k t.span t.cost) c.nodes-in-Back.ensures in
+    let is = c.return_arc.ensures ∙ ap (λ k. return_arc k t.span t.cost) c.nodes-in-Back.ensures in
     ap Some is ∙ arc_return n g.N.Cost.CostKind.kind.zero (entries_of t.entries) t.span t.cost at.0 c.args.a at.1
 
 pub returns-in-Nowhere : goal.returns-in-Nowhere

@@ -4,12 +4,12 @@ use Rattle.layers.specs.Closings.{entries_of, is_lower}
 use Rattle.layers.proofs.Closed.{back_stop_lower, handed_lower, back_none}
 use Rattle.layers.proofs.closing.ClosingCostNetwork.hand_back.Goals as goal
 
-pub returns-then-not-is-lower : goal.returns-then-not-is-lower
-returns-then-not-is-lower g c =
+pub returns-then-not-is_lower : goal.returns-then-not-is_lower
+returns-then-not-is_lower g c =
     let t = c.args.self.now in
     let n = g.N.Network.meaning t.below in
     let tag = c.args.tag in
-    let high = ap (is_lower n) (sym c.arc-a.ensures) ∙ sym c.is-lower.ensures ∙ c.if-not-is-lower.true in
+    let high = ap (is_lower n) (sym c.arc-a.ensures) ∙ sym c.is_lower.ensures ∙ c.if-not-is_lower.true in
     let r = back_none n g.Cost-as-CostKind.kind.zero (entries_of t.entries) t.span t.cost c.args.layer tag.arc high in
     record { answers = ap (λ a. answer_back (Some (12, a)) tag) c.arc-a.ensures ∙ ap (λ o. answer_back o tag) r.0; leaves = r.1 }
 
@@ -18,8 +18,8 @@ returns g c =
     let t = c.args.self.now in
     let n = g.N.Network.meaning t.below in
     let tag = c.args.tag in
-    let low = ap (is_lower n) (sym c.arc-a.ensures) ∙ sym c.is-lower.ensures ∙ c.if-not-is-lower.false in
+    let low = ap (is_lower n) (sym c.arc-a.ensures) ∙ sym c.is_lower.ensures ∙ c.if-not-is_lower.false in
     record {
-      answers = c.hand-back.ensures.answers ∙ ap (λ o. answer_back o tag) (back_stop_lower n g.Cost-as-CostKind.kind.zero (entries_of t.entries) t.span t.cost c.args.layer tag.arc low);
-      leaves = handed_lower n g.Cost-as-CostKind.kind.zero (entries_of t.entries) t.span t.cost c.args.layer tag.arc low _ c.hand-back.ensures.leaves;
+      answers = c.hand_back.ensures.answers ∙ ap (λ o. answer_back o tag) (back_stop_lower n g.Cost-as-CostKind.kind.zero (entries_of t.entries) t.span t.cost c.args.layer tag.arc low);
+      leaves = handed_lower n g.Cost-as-CostKind.kind.zero (entries_of t.entries) t.span t.cost c.args.layer tag.arc low _ c.hand_back.ensures.leaves;
     }
