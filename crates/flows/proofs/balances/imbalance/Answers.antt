@@ -9,8 +9,8 @@ use Rattle.flows.proofs.balances.imbalance.Goals as goal
 pub loop-i-init : goal.loop-i-init
 loop-i-init g c = (omega arith, balance_start _)
 
-pub returns-in-default : goal.returns-in-default
-returns-in-default g c = absurd (never_absent (g.N.Network.meaning c.args.net.now) c.loop-i.i (omega arith) c.in-default.ensures)
+pub returns-in_default : goal.returns-in_default
+returns-in_default g c = absurd (never_absent (g.N.Network.meaning c.args.net.now) c.loop-i.i (omega arith) c.in_default.ensures)
 
 pub loop-i-preserved : goal.loop-i-preserved
 loop-i-preserved g c =

@@ -4,8 +4,8 @@ use Rattle.networks.specs.Nets.{shown}
 use Rattle.flows.proofs.Balancing.{balance_small, fits_need}
 use Rattle.flows.proofs.balances.need.Goals as goal
 
-pub overflow-cast-result : goal.overflow-cast-result
-overflow-cast-result g c =
+pub overflow_cast-result : goal.overflow_cast-result
+overflow_cast-result g c =
     let n = g.N.Network.meaning c.args.net.now in
     let wide : SFits w64 c.imbalance.result = search rules in
     let small = balance_small c.args.node (shown n) c.args.flow.now c.requires.small in

@@ -6,8 +6,8 @@ use Rattle.networks.proofs.Shown.{never_absent, arc_first}
 use Rattle.flows.proofs.Stopping.{arcs_pass, arcs_fail, arcs_end}
 use Rattle.flows.proofs.stops.arcs_fault.Goals as goal
 
-pub returns-in-default : goal.returns-in-default
-returns-in-default g c = absurd (never_absent (g.N.Network.meaning c.args.net.now) c.loop-i.i (omega arith) c.in-default.ensures)
+pub returns-in_default : goal.returns-in_default
+returns-in_default g c = absurd (never_absent (g.N.Network.meaning c.args.net.now) c.loop-i.i (omega arith) c.in_default.ensures)
 
 pub returns-in-Some-arc_fault : goal.returns-in-Some-arc_fault
 returns-in-Some-arc_fault g c =
@@ -15,20 +15,20 @@ returns-in-Some-arc_fault g c =
     let flow = c.args.flow.now in
     let i = c.loop-i.i in
     let f : SFits w32 (get_or flow i (pos 0)) = search rules in
-    sym (arcs_fail g.Cost.CostKind.kind.size n.nodes i (shown n) flow c.in-Some.arc (get_or flow i (pos 0)) (arc_first n i c.in-Some.arc c.in-Some.ensures) (drop_more flow i (pos 0) (omega arith))
+    sym (arcs_fail g.N.Cost.CostKind.kind.size n.nodes i (shown n) flow c.in-Some.arc (get_or flow i (pos 0)) (arc_first n i c.in-Some.arc c.in-Some.ensures) (drop_more flow i (pos 0) (omega arith))
     _ (simp (to_z-of_z, c.nodes-nodes.ensures) at c.in-Some-arc_fault.ensures)) ∙ c.loop-i.invariant
 
 pub loop-i-preserved : goal.loop-i-preserved
 loop-i-preserved g c =
     let n = g.N.Network.meaning c.args.net.now in
-    let size = g.Cost.CostKind.kind.size in
+    let size = g.N.Cost.CostKind.kind.size in
     let flow = c.args.flow.now in
     let i = c.loop-i.i in
     let f : SFits w32 (get_or flow i (pos 0)) = search rules in
     arcs_pass size n.nodes i (shown n) flow c.in-Some.arc (get_or flow i (pos 0)) (arc_first n i c.in-Some.arc c.in-Some.ensures) (drop_more flow i (pos 0) (omega arith))
-    (simp (to_z-of_z, c.nodes-nodes.ensures) at c.in-default-arc_fault.ensures) ∙ c.loop-i.invariant
+    (simp (to_z-of_z, c.nodes-nodes.ensures) at c.in_default-arc_fault.ensures) ∙ c.loop-i.invariant
 
 pub returns : goal.returns
 returns g c =
     let n = g.N.Network.meaning c.args.net.now in
-    sym (arcs_end g.Cost.CostKind.kind.size n.nodes (c.loop-i.i + 1) (drop c.loop-i.i (shown n)) (drop c.loop-i.i c.args.flow.now) (drop_all c.loop-i.i c.args.flow.now (omega arith))) ∙ c.loop-i.invariant
+    sym (arcs_end g.N.Cost.CostKind.kind.size n.nodes (c.loop-i.i + 1) (drop c.loop-i.i (shown n)) (drop c.loop-i.i c.args.flow.now) (drop_all c.loop-i.i c.args.flow.now (omega arith))) ∙ c.loop-i.invariant

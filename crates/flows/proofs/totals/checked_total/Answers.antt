@@ -9,19 +9,19 @@ use Rattle.flows.proofs.RunningTotals.{running_more, running_all, running_short,
 use Rattle.flows.proofs.totals.checked_total.Goals as goal
 
 pub loop-i-init : goal.loop-i-init
-loop-i-init g c = ap (λ s. running_total (sums g.Cost.CostKind.kind) s (shown (g.N.Network.meaning c.args.net.now)) c.args.flow.now) c.zero-all.ensures
+loop-i-init g c = ap (λ s. running_total (sums g.N.Cost.CostKind.kind) s (shown (g.N.Network.meaning c.args.net.now)) c.args.flow.now) c.zero-all.ensures
 
-pub returns-in-default : goal.returns-in-default
-returns-in-default g c =
-    let K = g.Cost.CostKind.kind in
+pub returns-in_default : goal.returns-in_default
+returns-in_default g c =
+    let K = g.N.Cost.CostKind.kind in
     let n = g.N.Network.meaning c.args.net.now in
     let flow = c.args.flow.now in
-    let e = sym (running_short (sums K) n c.loop-i.i (drop c.loop-i.i flow) c.loop-i.all c.in-default.ensures) ∙ c.loop-i.invariant in
-    record { running = e; within = λ few fit small. e ∙ total_within K g.met.Cost.CostKind.lawful n.nodes (shown n) flow few fit small }
+    let e = sym (running_short (sums K) n c.loop-i.i (drop c.loop-i.i flow) c.loop-i.all c.in_default.ensures) ∙ c.loop-i.invariant in
+    record { running = e; within = λ few fit small. e ∙ total_within K g.met.N.Cost.CostKind.lawful n.nodes (shown n) flow few fit small }
 
 pub returns-in_err-all : goal.returns-in_err-all
 returns-in_err-all g c =
-    let K = g.Cost.CostKind.kind in
+    let K = g.N.Cost.CostKind.kind in
     let n = g.N.Network.meaning c.args.net.now in
     let flow = c.args.flow.now in
     let i = c.loop-i.i in
@@ -30,11 +30,11 @@ returns-in_err-all g c =
     let more = running_more (sums K) i (shown n) flow c.in-Some.arc (get_or flow i (pos 0)) c.loop-i.all c.added.result (arc_first n i c.in-Some.arc c.in-Some.ensures) (drop_more flow i (pos 0) (omega arith)) is in
     let off = ap (λ o. and_then o (λ s. running_total (sums K) s (drop (i + 1) (shown n)) (drop (i + 1) flow))) c.in_err-all.was in
     let e = c.from_residual.ensures ∙ sym off ∙ sym more ∙ c.loop-i.invariant in
-    record { running = e; within = λ few fit small. e ∙ total_within K g.met.Cost.CostKind.lawful n.nodes (shown n) flow few fit small }
+    record { running = e; within = λ few fit small. e ∙ total_within K g.met.N.Cost.CostKind.lawful n.nodes (shown n) flow few fit small }
 
 pub loop-i-preserved : goal.loop-i-preserved
 loop-i-preserved g c =
-    let K = g.Cost.CostKind.kind in
+    let K = g.N.Cost.CostKind.kind in
     let n = g.N.Network.meaning c.args.net.now in
     let flow = c.args.flow.now in
     let i = c.loop-i.i in
@@ -46,9 +46,9 @@ loop-i-preserved g c =
 
 pub returns : goal.returns
 returns g c =
-    let K = g.Cost.CostKind.kind in
+    let K = g.N.Cost.CostKind.kind in
     let n = g.N.Network.meaning c.args.net.now in
     let flow = c.args.flow.now in
     let i = c.loop-i.i in
     let e = sym (running_all (sums K) (drop i (shown n)) (drop i flow) c.loop-i.all (drop_all i flow (omega arith))) ∙ c.loop-i.invariant in
-    record { running = e; within = λ few fit small. e ∙ total_within K g.met.Cost.CostKind.lawful n.nodes (shown n) flow few fit small }
+    record { running = e; within = λ few fit small. e ∙ total_within K g.met.N.Cost.CostKind.lawful n.nodes (shown n) flow few fit small }

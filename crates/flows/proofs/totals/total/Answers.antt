@@ -9,13 +9,13 @@ use Rattle.flows.proofs.totals.total.Goals as goal
 
 pub loop-i-init : goal.loop-i-init
 loop-i-init g c =
-    let K = g.Cost.CostKind.kind in
-    let laws = g.met.Cost.CostKind.lawful in
+    let K = g.N.Cost.CostKind.kind in
+    let laws = g.met.N.Cost.CostKind.lawful in
     let z = c.zero-all.ensures in
     (omega (arith, ap K.size z, size_zero K laws), total_start K laws _ _ z)
 
-pub returns-in-default : goal.returns-in-default
-returns-in-default g c = absurd (never_absent (g.N.Network.meaning c.args.net.now) c.loop-i.i (omega arith) c.in-default.ensures)
+pub returns-in_default : goal.returns-in_default
+returns-in_default g c = absurd (never_absent (g.N.Network.meaning c.args.net.now) c.loop-i.i (omega arith) c.in_default.ensures)
 
 pub multiple-requires : goal.multiple-requires
 multiple-requires g c =
@@ -29,13 +29,13 @@ sum-all-requires g c = omega (arith, c.loop-i.invariant.0, c.multiple.ensures.sm
 
 pub loop-i-preserved : goal.loop-i-preserved
 loop-i-preserved g c =
-    let K = g.Cost.CostKind.kind in
+    let K = g.N.Cost.CostKind.kind in
     let n = g.N.Network.meaning c.args.net.now in
     let flow = c.args.flow.now in
     let i = c.loop-i.i in
     let f : SFits w32 (get_or flow i (pos 0)) = search rules in (
       omega (arith, c.loop-i.invariant.0, c.multiple.ensures.small, c.sum-all.ensures.small),
-      total_more K g.met.Cost.CostKind.lawful i (shown n) flow c.in-Some.arc (get_or flow i (pos 0)) c.loop-i.all c.multiple.result c.sum-all.result
+      total_more K g.met.N.Cost.CostKind.lawful i (shown n) flow c.in-Some.arc (get_or flow i (pos 0)) c.loop-i.all c.multiple.result c.sum-all.result
           (arc_first n i c.in-Some.arc c.in-Some.ensures) (drop_more flow i (pos 0) (omega arith)) (simp to_z-of_z at c.multiple.ensures.value) c.sum-all.ensures.value ∙ c.loop-i.invariant.1,
     )
 
@@ -43,4 +43,4 @@ pub returns : goal.returns
 returns g c =
     let n = g.N.Network.meaning c.args.net.now in
     let i = c.loop-i.i in
-    sym (total_all g.Cost.CostKind.kind g.met.Cost.CostKind.lawful (drop i (shown n)) (drop i c.args.flow.now) c.loop-i.all (drop_all i c.args.flow.now (omega arith))) ∙ c.loop-i.invariant.1
+    sym (total_all g.N.Cost.CostKind.kind g.met.N.Cost.CostKind.lawful (drop i (shown n)) (drop i c.args.flow.now) c.loop-i.all (drop_all i c.args.flow.now (omega arith))) ∙ c.loop-i.invariant.1

@@ -10,7 +10,7 @@ use Rattle.labels.proofs.labelling.extend.Goals as goal
 
 pub outward-requires : goal.outward-requires
 outward-requires g c =
-    let K = g.Cost.CostKind.kind in
+    let K = g.N.Cost.CostKind.kind in
     let n = g.N.Network.meaning c.args.net.now in
     let arcs = shown n in
     let flow = c.args.flow.now in
@@ -21,12 +21,12 @@ outward-requires g c =
     let fit = c.requires.fitting i a is in
     record { from = (omega (arith, fit.ends), omega (arith, fit.ends, c.requires.few)); to = (omega (arith, fit.ends), omega (arith, fit.ends, c.requires.few)) }
 
-pub returns-in-default-outward : goal.returns-in-default-outward
-returns-in-default-outward g c = record { good = c.requires.good; grown = grown_none c.args.labels.now }
+pub returns-in_default-outward : goal.returns-in_default-outward
+returns-in_default-outward g c = record { good = c.requires.good; grown = grown_none c.args.labels.now }
 
 pub reduced-requires : goal.reduced-requires
 reduced-requires g c =
-    let K = g.Cost.CostKind.kind in
+    let K = g.N.Cost.CostKind.kind in
     let n = g.N.Network.meaning c.args.net.now in
     let arcs = shown n in
     let flow = c.args.flow.now in
@@ -42,7 +42,7 @@ returns-then-not-may g c = record { good = c.requires.good; grown = grown_none c
 
 pub push-requires : goal.push-requires
 push-requires g c =
-    let K = g.Cost.CostKind.kind in
+    let K = g.N.Cost.CostKind.kind in
     let n = g.N.Network.meaning c.args.net.now in
     let arcs = shown n in
     let flow = c.args.flow.now in
@@ -65,7 +65,7 @@ push-requires g c =
 
 pub returns : goal.returns
 returns g c =
-    let K = g.Cost.CostKind.kind in
+    let K = g.N.Cost.CostKind.kind in
     let n = g.N.Network.meaning c.args.net.now in
     let arcs = shown n in
     let flow = c.args.flow.now in

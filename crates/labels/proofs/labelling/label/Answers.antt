@@ -36,7 +36,7 @@ labelling-preserved g c = (c.loop-i.invariant.0, grown_both c.args.labels.now c.
 
 pub returns : goal.returns
 returns g c =
-    let K = g.Cost.CostKind.kind in
+    let K = g.N.Cost.CostKind.kind in
     let arcs = shown (g.N.Network.meaning c.args.net.now) in
     let ls = c.args.labels.now in
     let Ended : Labels → Type 0 = λ ms. Good K arcs c.args.flow.now c.args.prices.now c.args.chosen ms × Grown ls ms in

@@ -20,7 +20,7 @@ trace-start-requires g c =
 
 pub least_room-amount-requires : goal.least_room-amount-requires
 least_room-amount-requires g c =
-    let K = g.Cost.CostKind.kind in
+    let K = g.N.Cost.CostKind.kind in
     let arcs = shown (g.N.Network.meaning c.args.net.now) in
     let s = c.args.chosen in
     let ls = c.args.labels.now in
@@ -34,12 +34,12 @@ least_room-amount-requires g c =
       long = c.requires.long;
       small = c.requires.small;
       moving = subst (All (Moving K arcs c.args.flow.now c.args.prices.now)) (sym e)
-          (all_moving K g.met.Cost.CostKind.lawful arcs c.args.flow.now c.args.prices.now c.requires.fitting s ls c.requires.good (place_of ls s.node - 1) (omega (arith, h.0, c.requires.reached)) h.1 (drop (r + 1) steps) c.trace-start.ensures.rest c.requires.long c.requires.small c.requires.chosen);
+          (all_moving K g.met.N.Cost.CostKind.lawful arcs c.args.flow.now c.args.prices.now c.requires.fitting s ls c.requires.good (place_of ls s.node - 1) (omega (arith, h.0, c.requires.reached)) h.1 (drop (r + 1) steps) c.trace-start.ensures.rest c.requires.long c.requires.small c.requires.chosen);
     }
 
 pub send-requires : goal.send-requires
 send-requires g c =
-    let K = g.Cost.CostKind.kind in
+    let K = g.N.Cost.CostKind.kind in
     let arcs = shown (g.N.Network.meaning c.args.net.now) in
     let s = c.args.chosen in
     let ls = c.args.labels.now in
@@ -50,12 +50,12 @@ send-requires g c =
     let x = c.least_room-amount.result in
     let f : SFits w32 c.least_room-amount.result = search rules in
     subst (λ z. Steady (to_z w32 (of_z w32 x)) z c.args.flow.now) (sym e) (subst (λ z. Steady z (s ∷ drop (r + 1) steps) c.args.flow.now) (sym (to_z-of_z w32 x f))
-    (steady K g.met.Cost.CostKind.lawful arcs c.args.flow.now c.args.prices.now c.requires.fitting s ls c.requires.good (place_of ls s.node - 1) (omega (arith, h.0, c.requires.reached)) h.1 (drop (r + 1) steps) c.trace-start.ensures.rest c.requires.long c.requires.small c.requires.chosen
+    (steady K g.met.N.Cost.CostKind.lawful arcs c.args.flow.now c.args.prices.now c.requires.fitting s ls c.requires.good (place_of ls s.node - 1) (omega (arith, h.0, c.requires.reached)) h.1 (drop (r + 1) steps) c.trace-start.ensures.rest c.requires.long c.requires.small c.requires.chosen
     x c.least_room-amount.ensures.low (subst (All (FitsIn K arcs c.args.flow.now c.args.prices.now x)) e c.least_room-amount.ensures.least)).0)
 
 pub returns : goal.returns
 returns g c =
-    let K = g.Cost.CostKind.kind in
+    let K = g.N.Cost.CostKind.kind in
     let arcs = shown (g.N.Network.meaning c.args.net.now) in
     let s = c.args.chosen in
     let ls = c.args.labels.now in
@@ -65,6 +65,6 @@ returns g c =
     let e = part steps r s c.trace-start.array_long c.trace-start.ensures.first in
     let x = c.least_room-amount.result in
     let f : SFits w32 c.least_room-amount.result = search rules in
-    gone K g.met.Cost.CostKind.lawful arcs c.args.flow.now c.args.prices.now c.requires.fitting s ls c.requires.good (place_of ls s.node - 1) (omega (arith, h.0, c.requires.reached)) h.1 (drop (r + 1) steps) c.trace-start.ensures.rest c.requires.long c.requires.small c.requires.chosen
+    gone K g.met.N.Cost.CostKind.lawful arcs c.args.flow.now c.args.prices.now c.requires.fitting s ls c.requires.good (place_of ls s.node - 1) (omega (arith, h.0, c.requires.reached)) h.1 (drop (r + 1) steps) c.trace-start.ensures.rest c.requires.long c.requires.small c.requires.chosen
     x c.send.new.flow c.least_room-amount.ensures.low (subst (All (FitsIn K arcs c.args.flow.now c.args.prices.now x)) e c.least_room-amount.ensures.least)
     (c.send.ensures ∙ ap (λ z. sent z (take (256 - r) (drop r steps)) c.args.flow.now) (to_z-of_z w32 x f) ∙ ap (λ z. sent x z c.args.flow.now) e)

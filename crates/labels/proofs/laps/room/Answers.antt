@@ -5,10 +5,10 @@ use Rattle.networks.proofs.Shown.{arc_is, never_absent, length_shown}
 use Rattle.labels.proofs.Rooming.{limit_small, room_found}
 use Rattle.labels.proofs.laps.room.Goals as goal
 
-pub returns-in-default : goal.returns-in-default
-returns-in-default g c =
+pub returns-in_default : goal.returns-in_default
+returns-in_default g c =
     let n = g.N.Network.meaning c.args.net.now in
-    absurd (never_absent n c.args.step.arc (omega (arith, length_shown n)) c.in-default.ensures)
+    absurd (never_absent n c.args.step.arc (omega (arith, length_shown n)) c.in_default.ensures)
 
 pub reduced-c-requires : goal.reduced-c-requires
 reduced-c-requires g c = record {
@@ -18,7 +18,7 @@ reduced-c-requires g c = record {
 
 pub span-requires : goal.span-requires
 span-requires g c =
-    let K = g.Cost.CostKind.kind in
+    let K = g.N.Cost.CostKind.kind in
     let a = c.in-Some.arc in
     let l : SFits w32 c.limit.result = search rules in
     let f : SFits w32 (get_or c.args.flow.now c.args.step.arc (pos 0)) = search rules in
@@ -28,7 +28,7 @@ span-requires g c =
 
 pub returns : goal.returns
 returns g c =
-    let K = g.Cost.CostKind.kind in
+    let K = g.N.Cost.CostKind.kind in
     let n = g.N.Network.meaning c.args.net.now in
     let a = c.in-Some.arc in
     let l : SFits w32 c.limit.result = search rules in

@@ -12,7 +12,7 @@ use Rattle.plans.proofs.listing.make.Goals as goal
 
 pub returns-in-Rebound : goal.returns-in-Rebound
 returns-in-Rebound g c =
-    let K = g.Cost.CostKind.kind in
+    let K = g.N.Cost.CostKind.kind in
     let n = g.N.Network.meaning c.args.net.now in
     let m = g.N.Network.meaning c.rebound.new.net in
     let p = state n c.args.flow.now c.args.needs.now c.args.prices.now c.args.marks.now in
@@ -23,7 +23,7 @@ returns-in-Rebound g c =
 
 pub returns-in-Recost : goal.returns-in-Recost
 returns-in-Recost g c =
-    let K = g.Cost.CostKind.kind in
+    let K = g.N.Cost.CostKind.kind in
     let n = g.N.Network.meaning c.args.net.now in
     let m = g.N.Network.meaning c.recost.new.net in
     let p = state n c.args.flow.now c.args.needs.now c.args.prices.now c.args.marks.now in
@@ -34,7 +34,7 @@ returns-in-Recost g c =
 
 pub returns-in-TakeOut : goal.returns-in-TakeOut
 returns-in-TakeOut g c =
-    let K = g.Cost.CostKind.kind in
+    let K = g.N.Cost.CostKind.kind in
     let n = g.N.Network.meaning c.args.net.now in
     let m = g.N.Network.meaning c.take_out.new.net in
     let p = state n c.args.flow.now c.args.needs.now c.args.prices.now c.args.marks.now in
@@ -44,11 +44,11 @@ returns-in-TakeOut g c =
     let a = c.in-TakeOut.arc in
     subst (λ k. Makes K p places (asked c.args.offers.now k) c.tagged.result q c.take_out.new.self.places) (sym c.in-TakeOut.is)
     (ring_makes K n m (taken n l a) p.tables places c.take_out.new.self.places (with_tag places a) (take_out l a) (take_out_stop n l a) refl (has 0 places) c.take_out.result c.tagged.result c.tagged.ensures
-    c.take_out.ensures.answers c.take_out.ensures.network c.take_out.ensures.ring (λ e. e) (λ x so left. ring_take_out_keeps K g.met.Cost.CostKind.lawful n m l a x so left p.tables))
+    c.take_out.ensures.answers c.take_out.ensures.network c.take_out.ensures.ring (λ e. e) (λ x so left. ring_take_out_keeps K g.met.N.Cost.CostKind.lawful n m l a x so left p.tables))
 
 pub returns-in-HandBack : goal.returns-in-HandBack
 returns-in-HandBack g c =
-    let K = g.Cost.CostKind.kind in
+    let K = g.N.Cost.CostKind.kind in
     let n = g.N.Network.meaning c.args.net.now in
     let m = g.N.Network.meaning c.hand_back.new.net in
     let p = state n c.args.flow.now c.args.needs.now c.args.prices.now c.args.marks.now in
@@ -58,4 +58,4 @@ returns-in-HandBack g c =
     let a = c.in-HandBack.arc in
     subst (λ k. Makes K p places (asked c.args.offers.now k) c.tagged-in-HandBack.result q c.hand_back.new.self.places) (sym c.in-HandBack.is)
     (ring_makes K n m (handed_back n l a) p.tables places c.hand_back.new.self.places (without_tag places a) (hand_back l a) (hand_back_stop n l a) refl (keeps places a) c.hand_back.result c.tagged-in-HandBack.result c.tagged-in-HandBack.ensures
-    c.hand_back.ensures.answers c.hand_back.ensures.network c.hand_back.ensures.ring (λ e. e) (λ x so left. ring_hand_back_keeps K g.met.Cost.CostKind.lawful n m l a x so left p.tables))
+    c.hand_back.ensures.answers c.hand_back.ensures.network c.hand_back.ensures.ring (λ e. e) (λ x so left. ring_hand_back_keeps K g.met.N.Cost.CostKind.lawful n m l a x so left p.tables))

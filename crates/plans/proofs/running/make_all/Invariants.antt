@@ -4,5 +4,5 @@ use Rattle.plans.proofs.running.make_all.Given as goal
 
 abbrev pub invariant-loop-i : goal.invariant-loop-i
 invariant-loop-i g l =
-    Done g.Cost.CostKind.kind (state (g.N.Network.meaning l.initial.net) l.initial.flow l.initial.needs l.initial.prices l.initial.marks) l.initial.tags.places l.offers l.calls l.initial.outcomes
+    Done g.N.Cost.CostKind.kind (state (g.N.Network.meaning l.initial.net) l.initial.flow l.initial.needs l.initial.prices l.initial.marks) l.initial.tags.places l.offers l.calls l.initial.outcomes
     l.i (state (g.N.Network.meaning l.net) l.flow l.needs l.prices l.marks) l.tags.places l.outcomes

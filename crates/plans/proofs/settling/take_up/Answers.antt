@@ -6,9 +6,9 @@ use Rattle.plans.proofs.settling.take_up.Goals as goal
 pub returns-in-Some : goal.returns-in-Some
 returns-in-Some g c =
     let p = state (g.N.Network.meaning c.args.net.now) c.args.flow.now c.args.needs.now c.args.prices.now c.args.marks.now in
-    take_up_refused g.Cost.CostKind.kind g.met.Cost.CostKind.lawful p c.args.offered.now (told c.in-Some.stop) c.in-Some.ensures
+    take_up_refused g.N.Cost.CostKind.kind g.met.N.Cost.CostKind.lawful p c.args.offered.now (told c.in-Some.stop) c.in-Some.ensures
 
 pub returns : goal.returns
 returns g c =
     let p = state (g.N.Network.meaning c.args.net.now) c.args.flow.now c.args.needs.now c.args.prices.now c.args.marks.now in
-    take_up_granted g.Cost.CostKind.kind g.met.Cost.CostKind.lawful p c.args.offered.now c.copy.new.to c.in-default.ensures c.copy.ensures
+    take_up_granted g.N.Cost.CostKind.kind g.met.N.Cost.CostKind.lawful p c.args.offered.now c.copy.new.to c.in_default.ensures c.copy.ensures

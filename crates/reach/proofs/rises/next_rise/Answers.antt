@@ -7,8 +7,8 @@ use Rattle.flows.proofs.ArcSums.{same_at}
 use Rattle.reach.specs.Rises.{own_limit_at, next_of}
 use Rattle.reach.proofs.rises.next_rise.Goals as goal
 
-pub returns-in-default : goal.returns-in-default
-returns-in-default g c = absurd (never_absent (g.N.Network.meaning c.args.net.now) c.args.chosen.arc (omega (arith, length_shown (g.N.Network.meaning c.args.net.now))) c.in-default.ensures)
+pub returns-in_default : goal.returns-in_default
+returns-in_default g c = absurd (never_absent (g.N.Network.meaning c.args.net.now) c.args.chosen.arc (omega (arith, length_shown (g.N.Network.meaning c.args.net.now))) c.in_default.ensures)
 
 pub reduced-c-requires : goal.reduced-c-requires
 reduced-c-requires g c = record {
@@ -18,7 +18,7 @@ reduced-c-requires g c = record {
 
 pub returns : goal.returns
 returns g c a is =
-    let K = g.Cost.CostKind.kind in
+    let K = g.N.Cost.CostKind.kind in
     let net = g.N.Network.meaning c.args.net.now in
     let i = c.args.chosen.arc in
     let along = c.args.chosen.along in

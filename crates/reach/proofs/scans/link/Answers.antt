@@ -7,12 +7,12 @@ use Rattle.labels.proofs.Extending.{new_room, new_low, new_high, new_good, new_g
 use Rattle.reach.proofs.Ripening.{ready_to}
 use Rattle.reach.proofs.scans.link.Goals as goal
 
-pub returns-in-default : goal.returns-in-default
-returns-in-default g c = absurd (never_absent (g.N.Network.meaning c.args.net.now) c.args.i (omega (arith, length_shown (g.N.Network.meaning c.args.net.now))) c.in-default.ensures)
+pub returns-in_default : goal.returns-in_default
+returns-in_default g c = absurd (never_absent (g.N.Network.meaning c.args.net.now) c.args.i (omega (arith, length_shown (g.N.Network.meaning c.args.net.now))) c.in_default.ensures)
 
-pub overflow-sub-parent : goal.overflow-sub-parent
-overflow-sub-parent g c =
-    let K = g.Cost.CostKind.kind in
+pub overflow_sub-parent : goal.overflow_sub-parent
+overflow_sub-parent g c =
+    let K = g.N.Cost.CostKind.kind in
     let arcs = shown (g.N.Network.meaning c.args.net.now) in
     let a = c.in-Some.arc in
     let is = arc_is (g.N.Network.meaning c.args.net.now) c.args.i a c.in-Some.ensures in
@@ -21,7 +21,7 @@ overflow-sub-parent g c =
 
 pub offset-bounds-labels-near : goal.offset-bounds-labels-near
 offset-bounds-labels-near g c =
-    let K = g.Cost.CostKind.kind in
+    let K = g.N.Cost.CostKind.kind in
     let arcs = shown (g.N.Network.meaning c.args.net.now) in
     let a = c.in-Some.arc in
     let is = arc_is (g.N.Network.meaning c.args.net.now) c.args.i a c.in-Some.ensures in
@@ -30,16 +30,16 @@ offset-bounds-labels-near g c =
 
 pub bounds-labels-near : goal.bounds-labels-near
 bounds-labels-near g c =
-    let K = g.Cost.CostKind.kind in
+    let K = g.N.Cost.CostKind.kind in
     let arcs = shown (g.N.Network.meaning c.args.net.now) in
     let a = c.in-Some.arc in
     let is = arc_is (g.N.Network.meaning c.args.net.now) c.args.i a c.in-Some.ensures in
     let r = ready_to K arcs c.args.flow.now c.args.prices.now c.args.chosen c.args.labels.now c.args.i a c.args.along c.far_end-near.result c.requires.good c.requires.fitting is c.requires.ripe c.far_end-near.ensures in
     let h = r.high in let k = c.requires.few in let l = r.low in omega arith
 
-pub overflow-sub-parent-2 : goal.overflow-sub-parent-2
-overflow-sub-parent-2 g c =
-    let K = g.Cost.CostKind.kind in
+pub overflow_sub-parent-2 : goal.overflow_sub-parent-2
+overflow_sub-parent-2 g c =
+    let K = g.N.Cost.CostKind.kind in
     let arcs = shown (g.N.Network.meaning c.args.net.now) in
     let a = c.in-Some.arc in
     let is = arc_is (g.N.Network.meaning c.args.net.now) c.args.i a c.in-Some.ensures in
@@ -48,7 +48,7 @@ overflow-sub-parent-2 g c =
 
 pub push-requires : goal.push-requires
 push-requires g c =
-    let K = g.Cost.CostKind.kind in
+    let K = g.N.Cost.CostKind.kind in
     let arcs = shown (g.N.Network.meaning c.args.net.now) in
     let a = c.in-Some.arc in
     let is = arc_is (g.N.Network.meaning c.args.net.now) c.args.i a c.in-Some.ensures in
@@ -64,7 +64,7 @@ push-requires g c =
 
 pub returns : goal.returns
 returns g c =
-    let K = g.Cost.CostKind.kind in
+    let K = g.N.Cost.CostKind.kind in
     let arcs = shown (g.N.Network.meaning c.args.net.now) in
     let a = c.in-Some.arc in
     let is = arc_is (g.N.Network.meaning c.args.net.now) c.args.i a c.in-Some.ensures in

@@ -6,8 +6,8 @@ use Rattle.reach.specs.Scans.{sight_of, Scanned}
 use Rattle.reach.proofs.Sights.{seen_aside, sighted}
 use Rattle.reach.proofs.scans.look.Goals as goal
 
-pub returns-in-default : goal.returns-in-default
-returns-in-default g c = absurd (never_absent (g.N.Network.meaning c.args.net.now) c.args.i (omega (arith, length_shown (g.N.Network.meaning c.args.net.now))) c.in-default.ensures)
+pub returns-in_default : goal.returns-in_default
+returns-in_default g c = absurd (never_absent (g.N.Network.meaning c.args.net.now) c.args.i (omega (arith, length_shown (g.N.Network.meaning c.args.net.now))) c.in_default.ensures)
 
 pub crossing-requires : goal.crossing-requires
 crossing-requires g c =
@@ -15,11 +15,11 @@ crossing-requires g c =
     let e = f.ends in
     (e.0, omega (arith, e.1), e.2, omega (arith, e.3))
 
-pub returns-in-default-crossing : goal.returns-in-default-crossing
-returns-in-default-crossing g c =
+pub returns-in_default-crossing : goal.returns-in_default-crossing
+returns-in_default-crossing g c =
     let arcs = shown (g.N.Network.meaning c.args.net.now) in
-    seen_aside g.Cost.CostKind.kind g.met.Cost.CostKind.lawful arcs c.args.flow.now c.args.prices.now c.args.chosen c.args.labels.now c.args.i c.args.best c.requires.seen c.in-Some.arc
-    (arc_is (g.N.Network.meaning c.args.net.now) c.args.i c.in-Some.arc c.in-Some.ensures) c.in-default-crossing.ensures
+    seen_aside g.N.Cost.CostKind.kind g.met.N.Cost.CostKind.lawful arcs c.args.flow.now c.args.prices.now c.args.chosen c.args.labels.now c.args.i c.args.best c.requires.seen c.in-Some.arc
+    (arc_is (g.N.Network.meaning c.args.net.now) c.args.i c.in-Some.arc c.in-Some.ensures) c.in_default-crossing.ensures
 
 pub reduced-c-requires : goal.reduced-c-requires
 reduced-c-requires g c = record {
@@ -32,7 +32,7 @@ sight-requires g c = omega (arith, c.reduced-c.ensures.small)
 
 pub returns : goal.returns
 returns g c =
-    let K = g.Cost.CostKind.kind in
+    let K = g.N.Cost.CostKind.kind in
     let arcs = shown (g.N.Network.meaning c.args.net.now) in
     let a = c.in-Some.arc in
     let i = c.args.i in
@@ -41,5 +41,5 @@ returns g c =
     let f : SFits w32 (get_or c.args.flow.now c.args.i (pos 0)) = search rules in
     subst (Scanned K arcs c.args.flow.now c.args.prices.now c.args.chosen c.args.labels.now (i + 1))
     (sym (simp to_z-of_z at c.sight.ensures ∙ ap (λ z. sight_of K z a along x i c.args.best) c.reduced-c.ensures.value))
-    (sighted K g.met.Cost.CostKind.lawful arcs c.args.flow.now c.args.prices.now c.args.chosen c.args.labels.now i c.args.best c.requires.seen a
+    (sighted K g.met.N.Cost.CostKind.lawful arcs c.args.flow.now c.args.prices.now c.args.chosen c.args.labels.now i c.args.best c.requires.seen a
     (arc_is (g.N.Network.meaning c.args.net.now) i a c.in-Some.ensures) along c.in-Some-crossing.ensures c.if-i-chosen.false)

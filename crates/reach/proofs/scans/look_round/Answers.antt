@@ -21,4 +21,4 @@ pub returns : goal.returns
 returns g c =
     let n = g.N.Network.meaning c.args.net.now in
     let e : c.loop-i.i ≡ length (shown n) = omega (arith, length_shown n, c.arcs-i-end.ensures) in
-    subst (λ k. Seen g.Cost.CostKind.kind (shown n) c.args.flow.now c.args.prices.now c.args.chosen c.args.labels.now k c.loop-i.best) e c.loop-i.invariant
+    subst (λ k. Seen g.N.Cost.CostKind.kind (shown n) c.args.flow.now c.args.prices.now c.args.chosen c.args.labels.now k c.loop-i.best) e c.loop-i.invariant

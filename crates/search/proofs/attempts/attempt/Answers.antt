@@ -10,11 +10,11 @@ use Rattle.search.proofs.AtHand.{at_hand}
 use Rattle.search.proofs.Marking.{cut_marked}
 use Rattle.search.proofs.attempts.attempt.Goals as goal
 
-pub returns-in-default : goal.returns-in-default
-returns-in-default g c = record {
+pub returns-in_default : goal.returns-in_default
+returns-in_default g c = record {
   ready = c.tame.ensures.ready;
   eased = c.tame.ensures.eased;
-  ends = (refl, c.in-default.ensures, refl);
+  ends = (refl, c.in_default.ensures, refl);
   spends = ((λ e. absurd (let z : ◌≡◌ {A = ℕ} 0 1 = cc in omega arith)), (λ e. absurd (let z : ◌≡◌ {A = ℕ} 0 1 = cc in omega arith)));
 }
 
@@ -23,8 +23,8 @@ begin-labels-requires g c = let want = c.in-Some.ensures in (want.sources.0, ome
 
 pub reach-requires : goal.reach-requires
 reach-requires g c =
-    let K = g.Cost.CostKind.kind in
-    let laws = g.met.Cost.CostKind.lawful in
+    let K = g.N.Cost.CostKind.kind in
+    let laws = g.met.N.Cost.CostKind.lawful in
     let n = g.N.Network.meaning c.args.net.now in
     let arcs = shown n in
     let N = n.nodes in
@@ -50,8 +50,8 @@ reach-requires g c =
 
 pub returns-then-not-may_lap : goal.returns-then-not-may_lap
 returns-then-not-may_lap g c =
-    let K = g.Cost.CostKind.kind in
-    let laws = g.met.Cost.CostKind.lawful in
+    let K = g.N.Cost.CostKind.kind in
+    let laws = g.met.N.Cost.CostKind.lawful in
     let n = g.N.Network.meaning c.args.net.now in
     let arcs = shown n in
     let N = n.nodes in
@@ -75,8 +75,8 @@ returns-then-not-may_lap g c =
 
 pub returns-in-Kilter : goal.returns-in-Kilter
 returns-in-Kilter g c =
-    let K = g.Cost.CostKind.kind in
-    let laws = g.met.Cost.CostKind.lawful in
+    let K = g.N.Cost.CostKind.kind in
+    let laws = g.met.N.Cost.CostKind.lawful in
     let n = g.N.Network.meaning c.args.net.now in
     let arcs = shown n in
     let N = n.nodes in
@@ -103,8 +103,8 @@ mark-requires g c = omega (arith, c.requires.marks, c.requires.ready.few)
 
 pub returns-in-Cut : goal.returns-in-Cut
 returns-in-Cut g c =
-    let K = g.Cost.CostKind.kind in
-    let laws = g.met.Cost.CostKind.lawful in
+    let K = g.N.Cost.CostKind.kind in
+    let laws = g.met.N.Cost.CostKind.lawful in
     let n = g.N.Network.meaning c.args.net.now in
     let arcs = shown n in
     let N = n.nodes in
@@ -128,8 +128,8 @@ returns-in-Cut g c =
 
 pub lap-requires : goal.lap-requires
 lap-requires g c =
-    let K = g.Cost.CostKind.kind in
-    let laws = g.met.Cost.CostKind.lawful in
+    let K = g.N.Cost.CostKind.kind in
+    let laws = g.met.N.Cost.CostKind.lawful in
     let n = g.N.Network.meaning c.args.net.now in
     let arcs = shown n in
     let N = n.nodes in
@@ -158,8 +158,8 @@ lap-requires g c =
 
 pub returns-else-not-may_lap : goal.returns-else-not-may_lap
 returns-else-not-may_lap g c =
-    let K = g.Cost.CostKind.kind in
-    let laws = g.met.Cost.CostKind.lawful in
+    let K = g.N.Cost.CostKind.kind in
+    let laws = g.met.N.Cost.CostKind.lawful in
     let n = g.N.Network.meaning c.args.net.now in
     let arcs = shown n in
     let N = n.nodes in

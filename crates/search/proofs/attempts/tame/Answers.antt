@@ -7,23 +7,23 @@ use Rattle.search.proofs.attempts.tame.Goals as goal
 pub tidy-requires : goal.tidy-requires
 tidy-requires g c = record {
   few = omega (arith, c.requires.few, c.requires.priced);
-  fitting = subst (λ z. Fitting g.Cost.CostKind.kind z (shown (g.N.Network.meaning c.args.net.now))) (sym c.requires.priced) c.requires.fitting;
+  fitting = subst (λ z. Fitting g.N.Cost.CostKind.kind z (shown (g.N.Network.meaning c.args.net.now))) (sym c.requires.priced) c.requires.fitting;
   moderate = c.requires.bounded;
 }
 
 pub returns-then-any_large : goal.returns-then-any_large
 returns-then-any_large g c =
-    let K = g.Cost.CostKind.kind in
+    let K = g.N.Cost.CostKind.kind in
     let n = g.N.Network.meaning c.args.net.now in
     let t = c.tidy.ensures in
     record {
       ready = tidied_ready K n.nodes (shown n) c.args.flow.now c.args.prices.now c.tidy.new.prices c.requires t;
-      eased = tidied_eased K g.met.Cost.CostKind.lawful n.nodes (shown n) c.args.flow.now c.args.prices.now c.tidy.new.prices c.requires t;
+      eased = tidied_eased K g.met.N.Cost.CostKind.lawful n.nodes (shown n) c.args.flow.now c.args.prices.now c.tidy.new.prices c.requires t;
       tame = tidied_tame K n.nodes (shown n) c.args.flow.now c.args.prices.now c.tidy.new.prices c.requires t;
     }
 
 pub returns-else-any_large : goal.returns-else-any_large
 returns-else-any_large g c =
-    let K = g.Cost.CostKind.kind in
+    let K = g.N.Cost.CostKind.kind in
     let n = g.N.Network.meaning c.args.net.now in
     record { ready = c.requires; eased = eased_same K (shown n) c.args.flow.now c.args.prices.now c.requires.long; tame = c.any_large.ensures c.if-any_large.false }

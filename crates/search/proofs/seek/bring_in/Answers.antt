@@ -11,16 +11,16 @@ loop-laps-init g c = (c.requires.ready, c.requires.spent, refl, refl, λ found h
 pub attempt-requires : goal.attempt-requires
 attempt-requires g c = record { ready = c.loop-laps.invariant.0; arc = omega (arith, c.loop-laps.invariant.3, c.requires.arc); marks = ap length c.loop-laps.invariant.2 ∙ c.requires.marks }
 
-pub overflow-add-laps : goal.overflow-add-laps
-overflow-add-laps g c = let h : c.loop-laps.laps < c.args.budget = ltb-true _ _ (c.in-Lapped.ensures.spends.0 refl) in let k = c.ranges.budget in search rules
+pub overflow_add-laps : goal.overflow_add-laps
+overflow_add-laps g c = let h : c.loop-laps.laps < c.args.budget = ltb-true _ _ (c.in-Lapped.ensures.spends.0 refl) in let k = c.ranges.budget in search rules
 
 pub loop-laps-smaller : goal.loop-laps-smaller
 loop-laps-smaller g c = let h : c.loop-laps.laps < c.args.budget = ltb-true _ _ (c.in-Lapped.ensures.spends.0 refl) in omega arith
 
 pub loop-laps-preserved : goal.loop-laps-preserved
 loop-laps-preserved g c =
-    let K = g.Cost.CostKind.kind in
-    let laws = g.met.Cost.CostKind.lawful in
+    let K = g.N.Cost.CostKind.kind in
+    let laws = g.met.N.Cost.CostKind.lawful in
     let n = g.N.Network.meaning c.args.net.now in
     let arcs = shown n in
     let f = c.loop-laps.flow in
@@ -38,8 +38,8 @@ loop-laps-preserved g c =
 
 pub returns-in-Kilter : goal.returns-in-Kilter
 returns-in-Kilter g c =
-    let K = g.Cost.CostKind.kind in
-    let laws = g.met.Cost.CostKind.lawful in
+    let K = g.N.Cost.CostKind.kind in
+    let laws = g.met.N.Cost.CostKind.lawful in
     let n = g.N.Network.meaning c.args.net.now in
     let arcs = shown n in
     let f = c.loop-laps.flow in
@@ -53,8 +53,8 @@ returns-in-Kilter g c =
 
 pub returns-in-Short : goal.returns-in-Short
 returns-in-Short g c =
-    let K = g.Cost.CostKind.kind in
-    let laws = g.met.Cost.CostKind.lawful in
+    let K = g.N.Cost.CostKind.kind in
+    let laws = g.met.N.Cost.CostKind.lawful in
     let n = g.N.Network.meaning c.args.net.now in
     let arcs = shown n in
     let f = c.loop-laps.flow in
@@ -70,8 +70,8 @@ returns-in-Short g c =
 
 pub returns-in-Cut : goal.returns-in-Cut
 returns-in-Cut g c =
-    let K = g.Cost.CostKind.kind in
-    let laws = g.met.Cost.CostKind.lawful in
+    let K = g.N.Cost.CostKind.kind in
+    let laws = g.met.N.Cost.CostKind.lawful in
     let n = g.N.Network.meaning c.args.net.now in
     let arcs = shown n in
     let f = c.loop-laps.flow in

@@ -5,7 +5,7 @@ use Rattle.search.proofs.seek.bring_in.Given as goal
 
 abbrev pub invariant-loop-laps : goal.invariant-loop-laps
 invariant-loop-laps g l =
-    let K = g.Cost.CostKind.kind in
+    let K = g.N.Cost.CostKind.kind in
     let n = g.N.Network.meaning l.net in
     Ready K n.nodes (shown n) l.flow l.prices × (l.laps ≤ l.budget) × (l.marks ≡ l.initial.marks) × (length l.flow ≡ length l.initial.flow) ×
     ((found : List ℤ) → Going K n.nodes (shown n) found l.i l.initial.laps l.initial.flow l.initial.prices → Going K n.nodes (shown n) found l.i l.laps l.flow l.prices)

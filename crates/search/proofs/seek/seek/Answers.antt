@@ -11,7 +11,7 @@ bring_in-requires g c = record { ready = c.loop-i.invariant.0.ready; arc = omega
 
 pub loop-i-preserved : goal.loop-i-preserved
 loop-i-preserved g c =
-    let K = g.Cost.CostKind.kind in
+    let K = g.N.Cost.CostKind.kind in
     let n = g.N.Network.meaning c.args.net.now in
     let found = c.args.flow.now in
     let inv = c.loop-i.invariant in
@@ -20,7 +20,7 @@ loop-i-preserved g c =
 
 pub returns-in-Paused : goal.returns-in-Paused
 returns-in-Paused g c =
-    let K = g.Cost.CostKind.kind in
+    let K = g.N.Cost.CostKind.kind in
     let n = g.N.Network.meaning c.args.net.now in
     let found = c.args.flow.now in
     let inv = c.loop-i.invariant in
@@ -29,7 +29,7 @@ returns-in-Paused g c =
 
 pub returns-in-Cut : goal.returns-in-Cut
 returns-in-Cut g c =
-    let K = g.Cost.CostKind.kind in
+    let K = g.N.Cost.CostKind.kind in
     let n = g.N.Network.meaning c.args.net.now in
     let found = c.args.flow.now in
     let inv = c.loop-i.invariant in
@@ -37,7 +37,7 @@ returns-in-Cut g c =
 
 pub returns : goal.returns
 returns g c =
-    let K = g.Cost.CostKind.kind in
+    let K = g.N.Cost.CostKind.kind in
     let n = g.N.Network.meaning c.args.net.now in
     let found = c.args.flow.now in
     let inv = c.loop-i.invariant in

@@ -5,6 +5,6 @@ use Rattle.search.proofs.seek.seek.Given as goal
 
 abbrev pub invariant-loop-i : goal.invariant-loop-i
 invariant-loop-i g l =
-    let K = g.Cost.CostKind.kind in
+    let K = g.N.Cost.CostKind.kind in
     let n = g.N.Network.meaning l.net in
     Going K n.nodes (shown n) l.initial.flow l.i l.laps l.flow l.prices × (l.laps ≤ l.budget) × (l.marks ≡ l.initial.marks) × (length l.flow ≡ length l.initial.flow)

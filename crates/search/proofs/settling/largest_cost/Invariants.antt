@@ -5,6 +5,6 @@ use Rattle.search.proofs.settling.largest_cost.Given as goal
 
 abbrev pub invariant-loop-i : goal.invariant-loop-i
 invariant-loop-i g l =
-    let K = g.Cost.CostKind.kind in
+    let K = g.N.Cost.CostKind.kind in
     let arcs = shown (g.N.Network.meaning l.net) in
     max l.most (largest K (drop l.i arcs)) ≡ largest K arcs

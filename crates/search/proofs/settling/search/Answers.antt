@@ -6,7 +6,7 @@ use Rattle.search.proofs.settling.search.Goals as goal
 
 pub total-requires : goal.total-requires
 total-requires g c =
-    let K = g.Cost.CostKind.kind in
+    let K = g.N.Cost.CostKind.kind in
     let n = g.N.Network.meaning c.args.net.now in
     let flow = c.args.flow.now in
     let ready = ended_ready K n.nodes (shown n) flow (length flow) c.args.budget c.seek-end.new.flow c.seek-end.new.prices c.args.marks.now c.seek-end.new.marks c.seek-end.result c.seek-end.ensures in

@@ -13,16 +13,16 @@ use Rattle.search.proofs.Answering.{small_prices, least_left, paused_left, none_
 use Rattle.search.proofs.Wording.{settled_by, words_follow}
 use Rattle.search.proofs.settling.settle.Goals as goal
 
-pub overflow-mul-most : goal.overflow-mul-most
-overflow-mul-most g c =
-    let K = g.Cost.CostKind.kind in
-    let laws = g.met.Cost.CostKind.lawful in
+pub overflow_mul-most : goal.overflow_mul-most
+overflow_mul-most g c =
+    let K = g.N.Cost.CostKind.kind in
+    let laws = g.met.N.Cost.CostKind.lawful in
     let n = g.N.Network.meaning c.args.net.now in
     let flow = c.args.flow.now in
     let needs' = c.args.needs.now in
     let ps = c.args.prices.now in
     let marks = c.args.marks.now in
-    let p = no_stop K n flow needs' (length ps) (length marks) (sym c.in-default.ensures) in
+    let p = no_stop K n flow needs' (length ps) (length marks) (sym c.in_default.ensures) in
     let l = some_limit K laws n flow needs' (length ps) (length marks) p (length ps) p.prices-long in
     let e = ap (λ z. (length ps - 1) * z) c.largest_cost.ensures in
     let h : (length ps - 1) * c.largest_cost.result < 2 ^ 64 = omega (arith, l, e) in
@@ -30,26 +30,26 @@ overflow-mul-most g c =
 
 pub save-saved-requires : goal.save-saved-requires
 save-saved-requires g c =
-    let K = g.Cost.CostKind.kind in
-    let laws = g.met.Cost.CostKind.lawful in
+    let K = g.N.Cost.CostKind.kind in
+    let laws = g.met.N.Cost.CostKind.lawful in
     let n = g.N.Network.meaning c.args.net.now in
     let flow = c.args.flow.now in
     let needs' = c.args.needs.now in
     let ps = c.args.prices.now in
     let marks = c.args.marks.now in
-    let p = no_stop K n flow needs' (length ps) (length marks) (sym c.in-default.ensures) in
+    let p = no_stop K n flow needs' (length ps) (length marks) (sym c.in_default.ensures) in
     omega (arith, p.flow-long, p.few-arcs)
 
 pub search-found-requires : goal.search-found-requires
 search-found-requires g c =
-    let K = g.Cost.CostKind.kind in
-    let laws = g.met.Cost.CostKind.lawful in
+    let K = g.N.Cost.CostKind.kind in
+    let laws = g.met.N.Cost.CostKind.lawful in
     let n = g.N.Network.meaning c.args.net.now in
     let flow = c.args.flow.now in
     let needs' = c.args.needs.now in
     let ps = c.args.prices.now in
     let marks = c.args.marks.now in
-    let p = no_stop K n flow needs' (length ps) (length marks) (sym c.in-default.ensures) in
+    let p = no_stop K n flow needs' (length ps) (length marks) (sym c.in_default.ensures) in
     record {
       going = going_start K laws n flow needs' (length ps) (length marks) p ps c.read_prices.new.prices _ p.prices-long c.read_prices.auto.prices (ap (λ z. (length ps - 1) * z) c.largest_cost.ensures) c.read_prices.ensures;
       few = omega (arith, p.flow-long, p.few-arcs);
@@ -58,14 +58,14 @@ search-found-requires g c =
 
 pub tidy-requires : goal.tidy-requires
 tidy-requires g c =
-    let K = g.Cost.CostKind.kind in
-    let laws = g.met.Cost.CostKind.lawful in
+    let K = g.N.Cost.CostKind.kind in
+    let laws = g.met.N.Cost.CostKind.lawful in
     let n = g.N.Network.meaning c.args.net.now in
     let flow = c.args.flow.now in
     let needs' = c.args.needs.now in
     let ps = c.args.prices.now in
     let marks = c.args.marks.now in
-    let p = no_stop K n flow needs' (length ps) (length marks) (sym c.in-default.ensures) in
+    let p = no_stop K n flow needs' (length ps) (length marks) (sym c.in_default.ensures) in
     let f = c.search-found.new.flow in
     let qs = c.search-found.new.prices in
     let ready = ended_ready K n.nodes (shown n) flow (length flow) c.args.budget f qs c.clear.new.marks c.search-found.new.marks c.search-found.result.end c.search-found.ensures.ended in
@@ -73,14 +73,14 @@ tidy-requires g c =
 
 pub drop-guard-requires-in-Paused : goal.drop-guard-requires-in-Paused
 drop-guard-requires-in-Paused g c =
-    let K = g.Cost.CostKind.kind in
-    let laws = g.met.Cost.CostKind.lawful in
+    let K = g.N.Cost.CostKind.kind in
+    let laws = g.met.N.Cost.CostKind.lawful in
     let n = g.N.Network.meaning c.args.net.now in
     let flow = c.args.flow.now in
     let needs' = c.args.needs.now in
     let ps = c.args.prices.now in
     let marks = c.args.marks.now in
-    let p = no_stop K n flow needs' (length ps) (length marks) (sym c.in-default.ensures) in
+    let p = no_stop K n flow needs' (length ps) (length marks) (sym c.in_default.ensures) in
     let f = c.search-found.new.flow in
     let qs = c.search-found.new.prices in
     let ready = ended_ready K n.nodes (shown n) flow (length flow) c.args.budget f qs c.clear.new.marks c.search-found.new.marks c.search-found.result.end c.search-found.ensures.ended in
@@ -88,14 +88,14 @@ drop-guard-requires-in-Paused g c =
 
 pub returns-in-Cut : goal.returns-in-Cut
 returns-in-Cut g c =
-    let K = g.Cost.CostKind.kind in
-    let laws = g.met.Cost.CostKind.lawful in
+    let K = g.N.Cost.CostKind.kind in
+    let laws = g.met.N.Cost.CostKind.lawful in
     let n = g.N.Network.meaning c.args.net.now in
     let flow = c.args.flow.now in
     let needs' = c.args.needs.now in
     let ps = c.args.prices.now in
     let marks = c.args.marks.now in
-    let p = no_stop K n flow needs' (length ps) (length marks) (sym c.in-default.ensures) in
+    let p = no_stop K n flow needs' (length ps) (length marks) (sym c.in_default.ensures) in
     let f = c.search-found.new.flow in
     let qs = c.search-found.new.prices in
     let ready = ended_ready K n.nodes (shown n) flow (length flow) c.args.budget f qs c.clear.new.marks c.search-found.new.marks c.search-found.result.end c.search-found.ensures.ended in
@@ -105,18 +105,18 @@ returns-in-Cut g c =
     let e = subst (Ended K n.nodes (shown n) flow (length flow) c.args.budget f qs c.clear.new.marks c.search-found.new.marks) c.in-Cut.is c.search-found.ensures.ended in
     let back = c.drop-guard.ensures ∙ ap (λ z. take z c.save-saved.result) c.search-found.auto.flow ∙ c.save-saved.ensures in
     let settled = settled_by K n c.args.budget flow needs' ps marks None _ rs c.search-found.new.marks (none_left K n.nodes (shown n) flow f _ needs' e.0 ps qs rs marks c.search-found.new.marks p.needs-long (p.flow-long ∙ sym (length_shown n)) p.meets e.1 e.2 back) shut in
-    record { stops = c.in-default.ensures; settles = settled; words = words_follow K laws n c.args.budget (tables flow needs' ps marks) (Ok None) _ (sym c.in-default.ensures) settled }
+    record { stops = c.in_default.ensures; settles = settled; words = words_follow K laws n c.args.budget (tables flow needs' ps marks) (Ok None) _ (sym c.in_default.ensures) settled }
 
 pub returns-in-Paused : goal.returns-in-Paused
 returns-in-Paused g c =
-    let K = g.Cost.CostKind.kind in
-    let laws = g.met.Cost.CostKind.lawful in
+    let K = g.N.Cost.CostKind.kind in
+    let laws = g.met.N.Cost.CostKind.lawful in
     let n = g.N.Network.meaning c.args.net.now in
     let flow = c.args.flow.now in
     let needs' = c.args.needs.now in
     let ps = c.args.prices.now in
     let marks = c.args.marks.now in
-    let p = no_stop K n flow needs' (length ps) (length marks) (sym c.in-default.ensures) in
+    let p = no_stop K n flow needs' (length ps) (length marks) (sym c.in_default.ensures) in
     let f = c.search-found.new.flow in
     let qs = c.search-found.new.prices in
     let ready = ended_ready K n.nodes (shown n) flow (length flow) c.args.budget f qs c.clear.new.marks c.search-found.new.marks c.search-found.result.end c.search-found.ensures.ended in
@@ -126,18 +126,18 @@ returns-in-Paused g c =
     let e = subst (Ended K n.nodes (shown n) flow (length flow) c.args.budget f qs c.clear.new.marks c.search-found.new.marks) c.in-Paused.is c.search-found.ensures.ended in
     let clear = λ (k : ℕ) (h : k < length c.search-found.new.marks). ap (λ z. get_or z k 0) e.3 ∙ c.clear.ensures k (omega (arith, ap length e.3)) in
     let settled = settled_by K n c.args.budget flow needs' ps marks (Paused c.in-Paused.laps) _ rs c.search-found.new.marks (subst (λ z. PausedLeft K n.nodes (shown n) c.args.budget (tables flow needs' ps marks) c.in-Paused.laps (tables z needs' rs c.search-found.new.marks)) (sym c.drop-guard-in-Paused.ensures) (paused_left K laws n.nodes (shown n) flow f qs rs tidied c.args.budget c.in-Paused.laps needs' ps marks c.search-found.new.marks e.0 e.1 e.2 clear)) shut in
-    record { stops = c.in-default.ensures; settles = settled; words = words_follow K laws n c.args.budget (tables flow needs' ps marks) (Ok (Paused c.in-Paused.laps)) _ (sym c.in-default.ensures) settled }
+    record { stops = c.in_default.ensures; settles = settled; words = words_follow K laws n c.args.budget (tables flow needs' ps marks) (Ok (Paused c.in-Paused.laps)) _ (sym c.in_default.ensures) settled }
 
 pub returns : goal.returns
 returns g c =
-    let K = g.Cost.CostKind.kind in
-    let laws = g.met.Cost.CostKind.lawful in
+    let K = g.N.Cost.CostKind.kind in
+    let laws = g.met.N.Cost.CostKind.lawful in
     let n = g.N.Network.meaning c.args.net.now in
     let flow = c.args.flow.now in
     let needs' = c.args.needs.now in
     let ps = c.args.prices.now in
     let marks = c.args.marks.now in
-    let p = no_stop K n flow needs' (length ps) (length marks) (sym c.in-default.ensures) in
+    let p = no_stop K n flow needs' (length ps) (length marks) (sym c.in_default.ensures) in
     let f = c.search-found.new.flow in
     let qs = c.search-found.new.prices in
     let ready = ended_ready K n.nodes (shown n) flow (length flow) c.args.budget f qs c.clear.new.marks c.search-found.new.marks c.search-found.result.end c.search-found.ensures.ended in
@@ -148,4 +148,4 @@ returns g c =
     let clear = λ (k : ℕ) (h : k < length c.search-found.new.marks). ap (λ z. get_or z k 0) e.2 ∙ c.clear.ensures k (omega (arith, ap length e.2)) in
     let going = subst (λ k. Going K n.nodes (shown n) flow k c.in-Kilter.laps f qs) (sym c.search-found.auto.flow) e.0 in
     let settled = settled_by K n c.args.budget flow needs' ps marks (Least c.search-found.result.total c.in-Kilter.laps) _ rs c.search-found.new.marks (subst (λ z. LeastLeft K (shown n) c.args.budget (tables flow needs' ps marks) c.search-found.result.total c.in-Kilter.laps (tables z needs' rs c.search-found.new.marks)) (sym c.drop-guard-2.ensures) (least_left K laws n.nodes (shown n) flow f qs rs tidied c.args.budget c.in-Kilter.laps c.search-found.result.total needs' ps marks c.search-found.new.marks going e.1 c.search-found.ensures.total clear)) shut in
-    record { stops = c.in-default.ensures; settles = settled; words = words_follow K laws n c.args.budget (tables flow needs' ps marks) (Ok (Least c.search-found.result.total c.in-Kilter.laps)) _ (sym c.in-default.ensures) settled }
+    record { stops = c.in_default.ensures; settles = settled; words = words_follow K laws n c.args.budget (tables flow needs' ps marks) (Ok (Least c.search-found.result.total c.in-Kilter.laps)) _ (sym c.in_default.ensures) settled }

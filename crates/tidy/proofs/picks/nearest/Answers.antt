@@ -4,8 +4,8 @@ use Rattle.networks.proofs.Shown.{never_absent, arc_is, arc_first, length_shown}
 use Rattle.tidy.proofs.Folds.{nearest_step, nearest_end}
 use Rattle.tidy.proofs.picks.nearest.Goals as goal
 
-pub returns-in-default : goal.returns-in-default
-returns-in-default g c = absurd (never_absent (g.N.Network.meaning c.args.net.now) c.loop-i.i (omega (arith, c.arcs-count.ensures)) c.in-default.ensures)
+pub returns-in_default : goal.returns-in_default
+returns-in_default g c = absurd (never_absent (g.N.Network.meaning c.args.net.now) c.loop-i.i (omega (arith, c.arcs-count.ensures)) c.in_default.ensures)
 
 pub slack-requires : goal.slack-requires
 slack-requires g c =
@@ -15,10 +15,10 @@ slack-requires g c =
 pub loop-i-preserved : goal.loop-i-preserved
 loop-i-preserved g c =
     let n = g.N.Network.meaning c.args.net.now in
-    nearest_step g.Cost.CostKind.kind c.args.prices.now c.args.marks.now (shown n) c.loop-i.i c.in-Some.x c.loop-i.best c.slack.result c.choose-best.result
+    nearest_step g.N.Cost.CostKind.kind c.args.prices.now c.args.marks.now (shown n) c.loop-i.i c.in-Some.x c.loop-i.best c.slack.result c.choose-best.result
     (arc_first n c.loop-i.i c.in-Some.x c.in-Some.ensures) c.slack.ensures c.choose-best.ensures c.loop-i.invariant
 
 pub returns : goal.returns
 returns g c =
     let n = g.N.Network.meaning c.args.net.now in
-    nearest_end g.Cost.CostKind.kind c.args.prices.now c.args.marks.now (shown n) c.loop-i.i c.loop-i.best (omega (arith, length_shown n, c.arcs-count.ensures)) c.loop-i.invariant
+    nearest_end g.N.Cost.CostKind.kind c.args.prices.now c.args.marks.now (shown n) c.loop-i.i c.loop-i.best (omega (arith, length_shown n, c.arcs-count.ensures)) c.loop-i.invariant

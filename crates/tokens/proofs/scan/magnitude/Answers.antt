@@ -4,13 +4,13 @@ use Rattle.tokens.specs.Tokens.{decimal}
 use Rattle.tokens.proofs.Tens.{next_ten, most_tens}
 use Rattle.tokens.proofs.scan.magnitude.Goals as goal
 
-pub overflow-mul-v : goal.overflow-mul-v
-overflow-mul-v c =
+pub overflow_mul-v : goal.overflow_mul-v
+overflow_mul-v c =
     let t : 10 ^ c.loop-b.b-index ≤ 1000000 = most_tens c.loop-b.b-index 6 (omega arith) in
     search rules
 
-pub overflow-add-v : goal.overflow-add-v
-overflow-add-v c =
+pub overflow_add-v : goal.overflow_add-v
+overflow_add-v c =
     let t : 10 ^ c.loop-b.b-index ≤ 1000000 = most_tens c.loop-b.b-index 6 (omega arith) in
     search rules
 

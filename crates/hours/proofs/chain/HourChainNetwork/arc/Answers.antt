@@ -4,8 +4,8 @@ use Rattle.makes.proofs.Kept.{arc_absent, within, arc_there}
 use Rattle.hours.proofs.HourRows.{chain_spot}
 use Rattle.hours.proofs.chain.HourChainNetwork.arc.Goals as goal
 
-pub returns-in-default : goal.returns-in-default
-returns-in-default g c = arc_absent (chain_net c.args.self.now) c.args.a c.arcs.ensures c.in-default.ensures
+pub returns-in_default : goal.returns-in_default
+returns-in_default g c = arc_absent (chain_net c.args.self.now) c.args.a c.arcs.ensures c.in_default.ensures
 
 pub bounds-rows-i : goal.bounds-rows-i
 bounds-rows-i g c = within (chain_spot c.args.self.now c.args.a c.in-Some.i c.arcs.ensures c.in-Some.ensures)

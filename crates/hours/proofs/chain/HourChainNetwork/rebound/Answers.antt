@@ -6,9 +6,9 @@ use Rattle.makes.proofs.Kept.{due, rebound_absent, within, rebound_there}
 use Rattle.hours.proofs.HourRows.{chain_spot, bound_row}
 use Rattle.hours.proofs.chain.HourChainNetwork.rebound.Goals as goal
 
-pub returns-in-default : goal.returns-in-default
-returns-in-default g c =
-    let r = rebound_absent (chain_net c.args.self.now) c.args.a c.arcs.ensures c.in-default.ensures c.args.b.lo c.args.b.hi in
+pub returns-in_default : goal.returns-in_default
+returns-in_default g c =
+    let r = rebound_absent (chain_net c.args.self.now) c.args.a c.arcs.ensures c.in_default.ensures c.args.b.lo c.args.b.hi in
     record { answers = due _ _ r.0; leaves = r.1 }
 
 pub bounds-self-i : goal.bounds-self-i

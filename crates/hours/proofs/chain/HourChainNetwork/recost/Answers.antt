@@ -4,9 +4,9 @@ use Rattle.makes.proofs.Kept.{due, recost_absent, within, recost_large, recost_t
 use Rattle.hours.proofs.HourRows.{chain_spot, cost_row}
 use Rattle.hours.proofs.chain.HourChainNetwork.recost.Goals as goal
 
-pub returns-in-default : goal.returns-in-default
-returns-in-default g c =
-    let r = recost_absent (chain_net c.args.self.now) c.args.a c.arcs.ensures c.in-default.ensures g.C.CostKind.kind.size c.args.c in
+pub returns-in_default : goal.returns-in_default
+returns-in_default g c =
+    let r = recost_absent (chain_net c.args.self.now) c.args.a c.arcs.ensures c.in_default.ensures g.C.CostKind.kind.size c.args.c in
     record { answers = due _ _ r.0; leaves = r.1 }
 
 pub returns-then-size-gt1000000 : goal.returns-then-size-gt1000000

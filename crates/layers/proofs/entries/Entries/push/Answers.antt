@@ -15,8 +15,8 @@ offset-bounds-rows-count c =
     let h : t.count < 32 = omega (arith, full, c.requires, length-take t.count t.rows) in
     search rules
 
-pub overflow-add-self : goal.overflow-add-self
-overflow-add-self c =
+pub overflow_add-self : goal.overflow_add-self
+overflow_add-self c =
     let t = c.args.self.now in
     let full : length t.rows ≡ 32 = search rules in
     let h : t.count < 32 = omega (arith, full, c.requires, length-take t.count t.rows) in
