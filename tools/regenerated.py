@@ -11,7 +11,7 @@ for path in sorted(glob.glob('crates/*/proofs/**/*.antt', recursive=True)):
     source = '\n'.join(open(rt, encoding='utf-8').read() for rt in glob.glob(f'crates/{crate}/src/**/*.rt', recursive=True))
     rust = {word for word in re.findall(r'\b[a-z][a-z0-9]*(?:_[a-z0-9]+)+\b', source)}
     pairs = sorted(((word.replace('_', '-'), word) for word in rust), key=lambda pair: -len(pair[0]))
-    pairs += [('in-ok', 'in_ok'), ('in-err', 'in_err'), ('in-default', 'in_default'), ('from-residual', 'from_residual')]
+    pairs += [('in-ok', 'in_ok'), ('in-err', 'in_err'), ('in-default', 'in_default'), ('offset-bounds', 'offset_bounds'), ('slice-bounds', 'slice_bounds'), ('from-residual', 'from_residual')]
     pairs += [(f'overflow-{word}', f'overflow_{word}') for word in ('add', 'sub', 'mul', 'neg', 'cast', 'div', 'rem', 'shl', 'shr')]
     text = open(path, encoding='utf-8').read()
     kept = set()

@@ -11,8 +11,8 @@ returns-in_err-read g c =
     let f = row_fault g.C.FileCost.numbers _ c.args.header.arcs c.loop-i.i _ _ _ _ (omega arith) c.in_err-read.ensures.is c.loop-i.invariant.0 in
     record { is = rw (p.1, p.2) (ap rows_of f); past = c.loop-i.invariant.1 }
 
-pub offset-bounds-rows-i : goal.offset-bounds-rows-i
-offset-bounds-rows-i g c = let h : c.loop-i.i < length c.args.rows.now = omega arith in search rules
+pub offset_bounds-rows-i : goal.offset_bounds-rows-i
+offset_bounds-rows-i g c = let h : c.loop-i.i < length c.args.rows.now = omega arith in search rules
 
 pub loop-i-preserved : goal.loop-i-preserved
 loop-i-preserved g c =

@@ -19,8 +19,8 @@ overflow_sub-parent g c =
     let r = ready_to K arcs c.args.flow.now c.args.prices.now c.args.chosen c.args.labels.now c.args.i a c.args.along c.far_end-near.result c.requires.good c.requires.fitting is c.requires.ripe c.far_end-near.ensures in
     r.low
 
-pub offset-bounds-labels-near : goal.offset-bounds-labels-near
-offset-bounds-labels-near g c =
+pub offset_bounds-labels-near : goal.offset_bounds-labels-near
+offset_bounds-labels-near g c =
     let K = g.N.Cost.CostKind.kind in
     let arcs = shown (g.N.Network.meaning c.args.net.now) in
     let a = c.in-Some.arc in

@@ -17,14 +17,14 @@ returns-then-size-gt1000000 g c =
 pub bounds-self-i : goal.bounds-self-i
 bounds-self-i g c = within (chain_spot c.args.self.now c.args.a c.in-Some.i c.arcs.ensures c.in-Some.ensures)
 
-pub offset-bounds-self-i : goal.offset-bounds-self-i
-offset-bounds-self-i g c = let l = within (chain_spot c.args.self.now c.args.a c.in-Some.i c.arcs.ensures c.in-Some.ensures) in search rules
+pub offset_bounds-self-i : goal.offset_bounds-self-i
+offset_bounds-self-i g c = let l = within (chain_spot c.args.self.now c.args.a c.in-Some.i c.arcs.ensures c.in-Some.ensures) in search rules
 
 pub bounds-self-i-2 : goal.bounds-self-i-2
 bounds-self-i-2 g c = within (chain_spot c.args.self.now c.args.a c.in-Some.i c.arcs.ensures c.in-Some.ensures)
 
-pub offset-bounds-self-i-2 : goal.offset-bounds-self-i-2
-offset-bounds-self-i-2 g c = let l = within (chain_spot c.args.self.now c.args.a c.in-Some.i c.arcs.ensures c.in-Some.ensures) in search rules
+pub offset_bounds-self-i-2 : goal.offset_bounds-self-i-2
+offset_bounds-self-i-2 g c = let l = within (chain_spot c.args.self.now c.args.a c.in-Some.i c.arcs.ensures c.in-Some.ensures) in search rules
 
 pub returns : goal.returns
 returns g c =

@@ -8,8 +8,8 @@ bounds-rows-count c =
     let full : length t.rows ≡ 32 = search rules in
     omega (arith, full, c.requires, length-take t.count t.rows)
 
-pub offset-bounds-rows-count : goal.offset-bounds-rows-count
-offset-bounds-rows-count c =
+pub offset_bounds-rows-count : goal.offset_bounds-rows-count
+offset_bounds-rows-count c =
     let t = c.args.self.now in
     let full : length t.rows ≡ 32 = search rules in
     let h : t.count < 32 = omega (arith, full, c.requires, length-take t.count t.rows) in

@@ -5,8 +5,8 @@ use Rattle.layers.proofs.entries.Entries.put.Goals as goal
 pub bounds-rows-i : goal.bounds-rows-i
 bounds-rows-i c = let t = c.args.self.now in (in_front t.count t.rows c.args.i c.requires).1
 
-pub offset-bounds-rows-i : goal.offset-bounds-rows-i
-offset-bounds-rows-i c =
+pub offset_bounds-rows-i : goal.offset_bounds-rows-i
+offset_bounds-rows-i c =
     let t = c.args.self.now in
     let full : length t.rows ≡ 32 = search rules in
     let h : c.args.i < 32 = omega (arith, full, (in_front t.count t.rows c.args.i c.requires).1) in

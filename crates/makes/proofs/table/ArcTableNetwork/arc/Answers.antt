@@ -1,5 +1,5 @@
 use Rattle.std.proofs.Common.{Some, None, ap, ◌∙◌}
-use Rattle.makes.proofs.Rows.{arc_is}
+use Rattle.makes.proofs.RowArcs.{arc_is}
 use Rattle.makes.proofs.table.ArcTableNetwork.arc.Goals as goal
 
 pub returns-in-Some : goal.returns-in-Some

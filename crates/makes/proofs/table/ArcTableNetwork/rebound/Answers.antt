@@ -2,7 +2,7 @@ use Rattle.std.proofs.Common.{◌-◌, get_or, ◌∙◌, ap₂, w32, SFits, rul
 use Rattle.std.proofs.lemmas.Int.{to_z-of_z}
 use Rattle.networks.specs.Nets.{rebounded}
 use Rattle.makes.specs.Tables.{table_net}
-use Rattle.makes.proofs.Rows.{past, there, due, rebound_absent, rebound_there}
+use Rattle.makes.proofs.RowArcs.{past, there, due, rebound_absent, rebound_there}
 use Rattle.makes.proofs.table.ArcTableNetwork.rebound.Goals as goal
 
 pub returns-then-i-self : goal.returns-then-i-self

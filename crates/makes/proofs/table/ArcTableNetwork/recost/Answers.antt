@@ -1,5 +1,5 @@
 use Rattle.std.proofs.Common.{◌-◌, get_or, arith}
-use Rattle.makes.proofs.Rows.{past, there, found, due, recost_absent, recost_large, recost_there}
+use Rattle.makes.proofs.RowArcs.{past, there, found, due, recost_absent, recost_large, recost_there}
 use Rattle.makes.proofs.table.ArcTableNetwork.recost.Goals as goal
 
 pub returns-then-i-self : goal.returns-then-i-self
