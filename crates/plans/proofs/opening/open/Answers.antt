@@ -8,7 +8,7 @@ pub imbalances-requires : goal.imbalances-requires
 imbalances-requires g c =
     let n = g.N.Network.meaning c.args.net.now in
     let r = opens g.N.Cost.CostKind.kind n c.args.flow.now (length c.args.needs.now) (length c.args.prices.now) (length c.args.marks.now) (sym c.in_default.ensures) in
-    record { few = omega (arith, r.few-arcs, r.flow-long); long = r.flow-long; small = r.small-flow }
+    record { few = omega (arith, r.few_arcs, r.flow_long); long = r.flow_long; small = r.small_flow }
 
 pub returns-in-Some : goal.returns-in-Some
 returns-in-Some g c =

@@ -23,7 +23,7 @@ overflow_mul-most g c =
     let ps = c.args.prices.now in
     let marks = c.args.marks.now in
     let p = no_stop K n flow needs' (length ps) (length marks) (sym c.in_default.ensures) in
-    let l = some_limit K laws n flow needs' (length ps) (length marks) p (length ps) p.prices-long in
+    let l = some_limit K laws n flow needs' (length ps) (length marks) p (length ps) p.prices_long in
     let e = ap (λ z. (length ps - 1) * z) c.largest_cost.ensures in
     let h : (length ps - 1) * c.largest_cost.result < 2 ^ 64 = omega (arith, l, e) in
     search rules
@@ -38,7 +38,7 @@ save-saved-requires g c =
     let ps = c.args.prices.now in
     let marks = c.args.marks.now in
     let p = no_stop K n flow needs' (length ps) (length marks) (sym c.in_default.ensures) in
-    omega (arith, p.flow-long, p.few-arcs)
+    omega (arith, p.flow_long, p.few_arcs)
 
 pub search-found-requires : goal.search-found-requires
 search-found-requires g c =
@@ -51,9 +51,9 @@ search-found-requires g c =
     let marks = c.args.marks.now in
     let p = no_stop K n flow needs' (length ps) (length marks) (sym c.in_default.ensures) in
     record {
-      going = going_start K laws n flow needs' (length ps) (length marks) p ps c.read_prices.new.prices _ p.prices-long c.read_prices.auto.prices (ap (λ z. (length ps - 1) * z) c.largest_cost.ensures) c.read_prices.ensures;
-      few = omega (arith, p.flow-long, p.few-arcs);
-      marks = c.clear.auto.marks ∙ p.marks-long;
+      going = going_start K laws n flow needs' (length ps) (length marks) p ps c.read_prices.new.prices _ p.prices_long c.read_prices.auto.prices (ap (λ z. (length ps - 1) * z) c.largest_cost.ensures) c.read_prices.ensures;
+      few = omega (arith, p.flow_long, p.few_arcs);
+      marks = c.clear.auto.marks ∙ p.marks_long;
     }
 
 pub tidy-requires : goal.tidy-requires
@@ -84,7 +84,7 @@ drop-guard-requires-in-Paused g c =
     let f = c.search-found.new.flow in
     let qs = c.search-found.new.prices in
     let ready = ended_ready K n.nodes (shown n) flow (length flow) c.args.budget f qs c.clear.new.marks c.search-found.new.marks c.search-found.result.end c.search-found.ensures.ended in
-    omega (arith, ready.long, length_shown n, p.few-arcs)
+    omega (arith, ready.long, length_shown n, p.few_arcs)
 
 pub returns-in-Cut : goal.returns-in-Cut
 returns-in-Cut g c =
@@ -104,7 +104,7 @@ returns-in-Cut g c =
     let shut = small_prices K laws n.nodes (shown n) flow f qs rs tidied ready.priced in
     let e = subst (Ended K n.nodes (shown n) flow (length flow) c.args.budget f qs c.clear.new.marks c.search-found.new.marks) c.in-Cut.is c.search-found.ensures.ended in
     let back = c.drop-guard.ensures ∙ ap (λ z. take z c.save-saved.result) c.search-found.auto.flow ∙ c.save-saved.ensures in
-    let settled = settled_by K n c.args.budget flow needs' ps marks None _ rs c.search-found.new.marks (none_left K n.nodes (shown n) flow f _ needs' e.0 ps qs rs marks c.search-found.new.marks p.needs-long (p.flow-long ∙ sym (length_shown n)) p.meets e.1 e.2 back) shut in
+    let settled = settled_by K n c.args.budget flow needs' ps marks None _ rs c.search-found.new.marks (none_left K n.nodes (shown n) flow f _ needs' e.0 ps qs rs marks c.search-found.new.marks p.needs_long (p.flow_long ∙ sym (length_shown n)) p.meets e.1 e.2 back) shut in
     record { stops = c.in_default.ensures; settles = settled; words = words_follow K laws n c.args.budget (tables flow needs' ps marks) (Ok None) _ (sym c.in_default.ensures) settled }
 
 pub returns-in-Paused : goal.returns-in-Paused
