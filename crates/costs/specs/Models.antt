@@ -1,5 +1,5 @@
 -- The two kinds of costs: one whole number, and two of which the first decides.
-use Rattle.std.specs.Prelude.{ℕ, max, Bool, true, false, cond, ℤ, pos, ◌+ℤ◌, ◌*ℤ◌, neg_ℤ, Some, None, Option, int_le, int_lt, unsigned_abs}
+use Rattle.std.specs.Prelude.{max, true, false, cond, ℤ, pos, ◌+ℤ◌, ◌*ℤ◌, neg_ℤ, Some, None, Option, int_le, int_lt, unsigned_abs}
 use Rattle.costs.specs.declared.Plain.{Plain}
 use Rattle.costs.specs.declared.TwoTier.{TwoTier}
 use Rattle.costs.specs.Kinds.{Kind}

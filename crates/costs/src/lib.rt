@@ -6,6 +6,7 @@
 // Everything that works on costs is written once, over this trait.
 //
 // Not promised: that a cost made by hand has a size within the limit; the operations take any.
+#![tactic(auto)]
 
 ghost use Rattle.std.specs.Prelude.{◌≡◌, ℕ, ℤ, ◌+ℤ◌, ◌*ℤ◌, neg_ℤ, unsigned_abs};
 ghost use Rattle.costs.specs.Kinds.{Kind, Laws, answered};

@@ -1,5 +1,5 @@
 -- Where no stop comes, arcs and flows are within the limits.
-use Rattle.std.proofs.Common.{◌≡◌, ℕ, zero, suc, ◌+◌, ◌-◌, ◌<◌, ◌≤◌, Bool, true, false, cond, ◌&&◌, eqb, leb, List, [], ◌∷◌, length, get_or, ℤ, pos, nat_abs, ◌≤ℤ◌, Some, None, Option, sym, refl, ap, ◌∙◌, subst, arith}
+use Rattle.std.proofs.Common.{◌≡◌, ℕ, zero, suc, ◌+◌, ◌-◌, ◌<◌, ◌≤◌, Bool, true, false, ◌&&◌, eqb, leb, List, [], ◌∷◌, length, get_or, ℤ, pos, nat_abs, ◌≤ℤ◌, Some, None, Option, sym, refl, ap, ◌∙◌, subst, arith}
 use lib.Signed.{le_z}
 use Rattle.std.proofs.lemmas.Int.{ints}
 use Rattle.std.proofs.lemmas.Bool.{and_parts, leb-true, eqb-true}
@@ -9,7 +9,7 @@ use Rattle.costs.specs.Kinds.{Kind}
 use Rattle.networks.specs.declared.network.Arc.{Arc}
 use Rattle.networks.specs.Limits.{cost_limit, in_limits, bounds_fit, flow_limit}
 use Rattle.networks.specs.Answers.{Told}
-use Rattle.networks.specs.Nets.{Net, IsAt, shown}
+use Rattle.networks.specs.Nets.{Net, shown}
 use Rattle.flows.specs.Fits.{Fit, Fitting, Small}
 use Rattle.flows.specs.Stops.{stop_unless, or_else, counts_fit, lengths_fit, ends_fit, arc_stop, arcs_stop, needs_stop, first_stop}
 

@@ -1,5 +1,5 @@
 -- One arc or node more of which stop comes first.
-use Rattle.std.proofs.Common.{◌≡◌, ℕ, suc, ◌+◌, Bool, true, false, ◌&&◌, List, [], ◌∷◌, length, drop, ℤ, Some, None, Option, sym, refl, ap, ◌∙◌, ap₂, arith}
+use Rattle.std.proofs.Common.{◌≡◌, ℕ, suc, ◌+◌, true, false, ◌&&◌, List, [], ◌∷◌, drop, ℤ, Some, None, sym, refl, ap, ◌∙◌, ap₂, arith}
 use lib.Signed.{le_z}
 use Rattle.std.proofs.lemmas.Bool.{cond-true, cond-false}
 use Rattle.networks.specs.declared.network.Arc.{Arc}

@@ -1,5 +1,5 @@
 -- One arc more of a total, and its size.
-use Rattle.std.proofs.Common.{◌≡◌, ℕ, ◌+◌, ◌*◌, ◌≤◌, List, [], ◌∷◌, drop, ℤ, nat_abs, sym, refl, ap, ◌∙◌, ap₂, mul-le-mul_right, mul-le-mul_left, arith}
+use Rattle.std.proofs.Common.{◌≡◌, ℕ, ◌+◌, ◌*◌, ◌≤◌, List, [], ◌∷◌, drop, ℤ, nat_abs, sym, ap, ◌∙◌, ap₂, mul-le-mul_left, arith}
 use Rattle.costs.specs.Kinds.{Kind, Laws, sums}
 use Rattle.networks.specs.declared.network.Arc.{Arc}
 use Rattle.flows.specs.Flows.{total}

@@ -7,6 +7,7 @@
 // step of a chain of arcs, which laps are made of.
 //
 // Not promised here: how a least flow is found.
+#![tactic(auto)]
 
 mod balances;
 mod figures;

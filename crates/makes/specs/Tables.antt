@@ -1,5 +1,5 @@
 -- The network that an arc table stands for.
-use Rattle.std.specs.Prelude.{ℕ, Bool, true, false, cond, ◌||◌, List, [], map, length, Some, None, Option, ◌==◌, nat_lt}
+use Rattle.std.specs.Prelude.{ℕ, false, cond, ◌||◌, List, [], map, length, Some, None, Option, ◌==◌, nat_lt}
 use Rattle.networks.specs.declared.network.Arc.{Arc}
 use Rattle.networks.specs.Limits.{most_nodes, most_arcs}
 use Rattle.networks.specs.Answers.{Told, unless}

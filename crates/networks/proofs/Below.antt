@@ -1,9 +1,9 @@
 -- A call on a lock-out that is not this one is the call on the network below.
-use Rattle.std.proofs.Common.{◌≡◌, ℕ, suc, Bool, false, eqb, List, ◌∷◌, length, Some, None, Option, Result, sym, refl, ap, ◌∙◌}
+use Rattle.std.proofs.Common.{◌≡◌, ℕ, suc, Bool, false, eqb, List, length, Some, None, Option, Result, sym, refl, ap, ◌∙◌}
 use Rattle.std.proofs.lemmas.Bool.{cond-false}
 use Rattle.networks.specs.Answers.{Told, answer, unless}
-use Rattle.networks.specs.Nets.{Lock, Net, line_stop, take_out_stop, relocked, relined, with_lock, taken}
-use Rattle.networks.specs.Locks.{lock_over, locked_net}
+use Rattle.networks.specs.Nets.{Lock, Net, line_stop, take_out_stop, relocked, relined, taken}
+use Rattle.networks.specs.Locks.{locked_net}
 
 module _ {C : Type 0} (n : Net C) (lines : List ℕ) (l a : ℕ) (r : Bool) (is : r ≡ eqb l (suc (length n.locks))) (no : r ≡ false) where
   other : eqb l (suc (length n.locks)) ≡ false

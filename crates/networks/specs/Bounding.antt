@@ -1,5 +1,5 @@
 -- When a pair of bounds can be made.
-use Rattle.std.specs.Prelude.{ℕ, cond, ℤ, Ok, Err, Result}
+use Rattle.std.specs.Prelude.{cond, ℤ, Ok, Err, Result}
 use Rattle.networks.specs.declared.stops.Stop.{Stop}
 use Rattle.networks.specs.declared.bounds.Bounds.{Bounds}
 use Rattle.networks.specs.Limits.{bounds_fit}

@@ -1,5 +1,5 @@
 -- A ring of tags: its places, each the number of an arc whose tag it keeps, or 0 where it is free.
-use Rattle.std.specs.Prelude.{ℕ, Bool, true, false, cond, not, ◌&&◌, List, [], ◌∷◌, Some, None, Ok, Err, Option, Result, ◌==◌, slice_set}
+use Rattle.std.specs.Prelude.{ℕ, Bool, true, false, cond, List, [], ◌∷◌, Some, None, Ok, Err, Option, Result, ◌==◌, slice_set}
 use Rattle.networks.specs.declared.tags.Tag.{Tag}
 use Rattle.networks.specs.declared.ring.TagRing.{TagRing}
 use Rattle.networks.specs.Nets.{place, has}

@@ -11,6 +11,7 @@
 // Not promised here: that the rows of a network are fit. Rows hold plain numbers, and calls on a plan
 // look at them first. Nor that a lock-out is let go empty: its network is lent or owned, and a tag that
 // outlives it still cannot be dropped.
+#![tactic(auto)]
 
 mod bounds;
 mod lockout;

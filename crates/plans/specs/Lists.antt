@@ -15,7 +15,7 @@ use Rattle.runs.specs.Steps.{Steps}
 use Rattle.runs.specs.Runs.{Run}
 use Rattle.plans.specs.Keeping.{settle_came, Keeps}
 
--- the call cannot be made with these tags: a take_out has no place for its tag, or a hand-back no tag
+-- the call cannot be made with these tags: a take-out has no place for its tag, or a hand-back no tag
 abbrev pub ShortOfTags : {C : Type 0} → List ℕ → Asked C → Type 0
 ShortOfTags places (settle budget) = ⊥
 ShortOfTags places (rebound a lo hi) = ⊥
@@ -24,7 +24,7 @@ ShortOfTags places (take_out l a) = has 0 places ≡ false
 ShortOfTags places (hand_back l a) = keeps places a ≡ false
 ShortOfTags places (take_up fs) = ⊥
 
--- the ring after a granted call: a take_out put its tag in, a hand-back spent one
+-- the ring after a granted call: a take-out put its tag in, a hand-back spent one
 abbrev pub retagged : {C : Type 0} → List ℕ → Asked C → List ℕ
 retagged places (settle budget) = places
 retagged places (rebound a lo hi) = places

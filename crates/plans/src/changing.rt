@@ -1,4 +1,4 @@
-// The calls that change the network: rebound and recost ask the top of the pile, take_out and hand-back one lock-out in it.
+// The calls that change the network: rebound and recost ask the top of the pile, take-out and hand-back one lock-out in it.
 
 ghost use Rattle.std.specs.Prelude.{◌≡◌, ℕ};
 ghost use Rattle.networks.specs.Nets.{take_out_stop, hand_back_stop};

@@ -232,7 +232,7 @@ module _ {C : Type 0} (size : C → ℕ) (n : Net C) (e : Event C) (a : ℕ) (c 
       no_back : (l b : ℕ) → e.call ≡ hand_back l b → ⊥
       no_back l b k = let z : ◌≡◌ {A = ℕ} 0 1 = cc in omega arith
 
--- ---- take_out and hand-back
+-- ---- take-out and hand-back
 
 -- the lock-out that a granted call names is there
 lock_there : (os : List Lock) (l : ℕ) (P : Option Lock → Type 0) → (P None → ⊥) → P (lock_at os l) → (o : Lock) × ((lock_at os l ≡ Some o) × P (Some o))

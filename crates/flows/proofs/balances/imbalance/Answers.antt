@@ -1,6 +1,6 @@
-use Rattle.std.proofs.Common.{◌≡◌, ◌+◌, get_or, drop, pos, sym, refl, ap, ◌∙◌, arith, w32, w64, SFits, rules}
+use Rattle.std.proofs.Common.{get_or, drop, pos, sym, ◌∙◌, arith, w32, w64, SFits, rules}
 use Rattle.std.proofs.lemmas.List.{drop_more, drop_all}
-use Rattle.std.proofs.lemmas.Int.{to_z-of_z, ints}
+use Rattle.std.proofs.lemmas.Int.{to_z-of_z}
 use Rattle.networks.specs.Nets.{shown}
 use Rattle.networks.proofs.Shown.{never_absent, arc_first}
 use Rattle.flows.proofs.Balancing.{balance_more, balance_all, balance_start}

@@ -1,4 +1,4 @@
-use Rattle.std.proofs.Common.{◌≡◌, ◌+◌, ◌*◌, ◌≤◌, drop, ◌+ℤ◌, nat_abs}
+use Rattle.std.proofs.Common.{◌≡◌, ◌*◌, ◌≤◌, drop, ◌+ℤ◌, nat_abs}
 use Rattle.networks.specs.Nets.{shown}
 use Rattle.flows.specs.Flows.{imbalance}
 use Rattle.flows.proofs.balances.imbalance.Given as goal

@@ -1,4 +1,4 @@
-use Rattle.std.proofs.Common.{◌≡◌, ◌+◌, length, pos, refl, ◌∙◌, arith, length-set, w32, SFits, rules}
+use Rattle.std.proofs.Common.{◌≡◌, ◌+◌, length, pos, ◌∙◌, arith, length-set, w32, SFits, rules}
 use Rattle.std.proofs.lemmas.Int.{to_z-of_z}
 use Rattle.networks.specs.Nets.{shown}
 use Rattle.flows.specs.Flows.{imbalance}
