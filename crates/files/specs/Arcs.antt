@@ -1,6 +1,5 @@
 -- The line of an arc.
-use Rattle.std.specs.Prelude.{ℕ, cond, List, ℤ, pos, negsuc, Ok, Err, codes, Result, nat_lt}
-use Rattle.makes.specs.declared.table.Row.{Row}
+use Rattle.std.specs.Prelude.{ℕ, cond, List, pos, negsuc, Ok, codes, Result, nat_lt}
 use Rattle.tokens.specs.declared.spots.LineFault.{LineFault}
 use Rattle.lines.specs.declared.Numeral.{Numeral}
 use Rattle.lines.specs.declared.Span.{Span}

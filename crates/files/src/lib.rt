@@ -8,6 +8,7 @@
 // ends in a line feed. `read_header` answers the counts, and `read_table` reads the arcs into lent rows.
 // Both equal their rule (specs), faults and places included; where reading stops, the rows are as they
 // were. A fault tells the line, the byte in it, and the cause; faults are found in reading order.
+#![tactic(auto)]
 
 mod arcs;
 mod faults;

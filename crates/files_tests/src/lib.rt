@@ -1,4 +1,5 @@
 // Network files on examples: files that are read, and faults with their lines, places and causes.
+#![tactic(auto)]
 
 #[cfg(test)]
 mod faults;

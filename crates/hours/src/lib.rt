@@ -3,6 +3,7 @@
 // `HourChain` keeps bounds and costs in a lent table, and works out the ends of an arc from its number. It has
 // no lock-out and no arc that is held or fixed. `check` says beforehand why the parts are unfit; a chain made
 // of unfit parts all the same shows no node and no arc, so that every call on it stops.
+#![tactic(auto)]
 
 mod chain;
 

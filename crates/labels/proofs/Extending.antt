@@ -1,7 +1,6 @@
 -- What labelling over one arc gives.
-use Rattle.std.proofs.Common.{◌≡◌, ℕ, zero, suc, ◌+◌, ◌-◌, ◌<◌, ◌≤◌, Bool, true, false, cond, eqb, List, [], ◌∷◌, length, get_or, set, ℤ, pos, Some, None, sym, refl, ap, ◌∙◌, subst, arith}
+use Rattle.std.proofs.Common.{◌≡◌, ℕ, ◌<◌, ◌≤◌, Bool, true, false, cond, eqb, List, length, get_or, ℤ, pos, Some, None, refl, ◌∙◌, subst, arith}
 use Rattle.std.proofs.lemmas.Bool.{eqb-true, true≢false}
-use Rattle.std.proofs.lemmas.List.{get_or_default}
 use Rattle.costs.specs.Kinds.{Kind}
 use Rattle.networks.specs.Nets.{IsAt}
 use Rattle.networks.specs.declared.network.Arc.{Arc}
@@ -12,8 +11,8 @@ use Rattle.flows.specs.Laps.{near, far}
 use Rattle.flows.proofs.ArcSums.{same_at}
 use Rattle.flows.specs.Fits.{Fit}
 use Rattle.labels.specs.Moves.{may}
-use Rattle.labels.specs.Good.{node_at, place_of, Open, Linked, Whole, Good, Grown, outward_at, pushed}
-use Rattle.labels.proofs.More.{room, place_new, whole_more, grown_more, linked_more}
+use Rattle.labels.specs.Good.{node_at, place_of, Open, Good, Grown, outward_at, pushed}
+use Rattle.labels.proofs.More.{room, whole_more, grown_more, linked_more}
 
 -- the way outward sets out from the node, and leads to one that is not labelled
 pub outward_is : {C : Type 0} (a : Arc C) (n : ℕ) (ls : Labels) (along : Bool) → Some along ≡ outward_at a n ls → (near a along ≡ n) × (place_of ls (far a along) ≡ 0)

@@ -1,6 +1,5 @@
 -- The way back by the labels is a lap with the chosen arc.
-use Rattle.std.proofs.Common.{◌≡◌, ℕ, zero, suc, ◌+◌, ◌-◌, ◌<◌, ◌≤◌, Bool, true, false, cond, ◌⊎◌, List, [], ◌∷◌, map, length, get_or, set, ℤ, pos, negsuc, ◌+ℤ◌, ◌-ℤ◌, neg_ℤ, nat_abs, ◌≤ℤ◌, ◌<ℤ◌, sym, refl, ap, ◌∙◌, subst, subst₂, inl, inr, ⊎_elim, arith, length-set}
-use lib.Signed.{lt_z}
+use Rattle.std.proofs.Common.{◌≡◌, ℕ, zero, suc, ◌+◌, ◌<◌, ◌≤◌, Bool, true, false, cond, List, [], ◌∷◌, map, length, get_or, set, ℤ, pos, negsuc, ◌+ℤ◌, ◌-ℤ◌, neg_ℤ, nat_abs, ◌≤ℤ◌, ◌<ℤ◌, sym, refl, ap, ◌∙◌, subst, subst₂, ⊎_elim, arith, length-set}
 use borrow.Author.Differences.{ints}
 use Rattle.std.specs.List.{AllByRecursion as All}
 use Rattle.std.proofs.lemmas.List.{get_or-set_same, get_or-set_other}
@@ -9,16 +8,15 @@ use Rattle.costs.specs.Kinds.{Kind, Laws}
 use Rattle.flows.specs.Kilter.{reduced}
 use Rattle.networks.specs.Nets.{IsAt}
 use Rattle.flows.specs.Fits.{Fit, Fitting, Small}
-use Rattle.flows.specs.Kilter.{kilter_number}
 use Rattle.flows.specs.Laps.{Leads, first, Chain, Apart, moved, sent}
 use Rattle.networks.specs.declared.network.Arc.{Arc}
 use Rattle.flows.specs.declared.steps.Step.{Step}
 use Rattle.flows.proofs.Chains.{lap_apart}
 use Rattle.flows.proofs.Lapping.{length_sent}
-use Rattle.flows.proofs.Rooms.{Room, Roomy, HasRoom, roomy_from_start, lap_better, arc_falls}
+use Rattle.flows.proofs.Rooms.{Room, HasRoom, roomy_from_start, lap_better, arc_falls}
 use Rattle.labels.specs.declared.labelling.Labels.{Labels}
 use Rattle.labels.specs.Moves.{limit_at, room_at}
-use Rattle.labels.specs.Good.{entry_at, node_at, place_of, Labelled, Open, Linked, Whole, Good}
+use Rattle.labels.specs.Good.{node_at, place_of, Good}
 use Rattle.labels.specs.Ways.{Way, Moving, FitsIn, Steady, Chosen, GoneRound}
 
 -- what has room: at most the limit, which is within the bounds

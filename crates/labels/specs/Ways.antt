@@ -1,5 +1,5 @@
 -- The way that labels lead back, and the room on it.
-use Rattle.std.specs.Prelude.{◌≡◌, ℕ, ◌+◌, ◌-◌, ◌<◌, ◌≤◌, Bool, true, false, cond, ◌⊎◌, List, [], ◌∷◌, length, ℤ, pos, ◌+ℤ◌, ◌-ℤ◌, neg_ℤ, ◌≤ℤ◌, ◌<ℤ◌, slice_index_or, slice_set, unsigned_abs}
+use Rattle.std.specs.Prelude.{◌≡◌, ℕ, ◌<◌, ◌≤◌, true, List, [], ◌∷◌, length, ℤ, pos, ◌≤ℤ◌, slice_index_or, slice_set, unsigned_abs}
 use Rattle.costs.specs.Kinds.{Kind}
 use Rattle.networks.specs.Nets.{IsAt}
 use Rattle.flows.specs.Fits.{Small}
@@ -11,7 +11,7 @@ use Rattle.networks.specs.declared.network.Arc.{Arc}
 use Rattle.flows.specs.declared.steps.Step.{Step}
 use Rattle.labels.specs.declared.labelling.Labels.{Labels}
 use Rattle.labels.specs.Moves.{may, room_at}
-use Rattle.labels.specs.Good.{entry_at, node_at}
+use Rattle.labels.specs.Good.{entry_at}
 
 -- every node but the first was labelled from an earlier one
 abbrev pub Backward : Labels → Type 0

@@ -3,6 +3,7 @@
 // `label` labels nodes from a source over arcs that may move, each with the step that leads to it from an
 // earlier one. `lap` goes from the sought node back by the labels and over the chosen arc, with as much as
 // there is room for.
+#![tactic(auto)]
 
 mod labelling;
 mod laps;

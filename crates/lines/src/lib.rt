@@ -3,6 +3,7 @@
 // `Line` is a line's number and the text from its first byte on. Each reading starts after a count of its
 // bytes and ends after another, or tells the fault; each equals its rule (specs). Places are worked out in
 // `spot` alone.
+#![tactic(auto)]
 
 ghost use Rattle.std.specs.Prelude.{◌≡◌, ℕ, ◌-◌, ◌≤◌, length, ◌≤ℤ◌, IfOk};
 ghost use Rattle.std.specs.Str.{bytes_eq};

@@ -1,5 +1,6 @@
 // The program `plan`: a network file on standard input, and on standard output its least-cost plan, the cut
 // that shows that there is none, or a numbered refusal.
+#![tactic(auto)]
 
 mod answers;
 

@@ -1,12 +1,11 @@
 -- The chosen arc while the sought node is not labelled: it leads from there to a labelled one, so that it takes part in each rise.
-use Rattle.std.proofs.Common.{◌≡◌, ℕ, ◌+◌, ◌<◌, ◌≤◌, Bool, true, false, cond, not, List, length, get_or, ℤ, pos, Some, None, Option, sym, refl, ap, ◌∙◌, subst, arith}
+use Rattle.std.proofs.Common.{◌≡◌, ℕ, ◌≤◌, Bool, true, false, cond, not, List, length, get_or, ℤ, pos, Some, sym, refl, ap, ◌∙◌, subst, arith}
 use Rattle.std.proofs.lemmas.Bool.{lt-ltb, le-ltb}
 use Rattle.costs.specs.Kinds.{Kind, Laws}
 use Rattle.networks.specs.Nets.{IsAt}
 use Rattle.networks.specs.declared.network.Arc.{Arc}
 use Rattle.flows.specs.declared.steps.Step.{Step}
 use Rattle.flows.specs.Fits.{Fit, Fitting, Bounded, price_limit, change_limit}
-use Rattle.flows.specs.Flows.{Ends}
 use Rattle.flows.specs.Kilter.{reduced}
 use Rattle.flows.specs.Laps.{near, far}
 use Rattle.flows.specs.Prices.{Raised}

@@ -1,5 +1,5 @@
 -- A rise that passes neither a slack nor the chosen arc's own limit raises no kilter number; and what it means that nothing limits it.
-use Rattle.std.proofs.Common.{◌≡◌, ℕ, ◌+◌, ◌<◌, ◌≤◌, Bool, true, false, cond, ◌||◌, ltb, ◌⊎◌, List, length, get_or, ℤ, pos, ◌≤ℤ◌, ◌<ℤ◌, Some, None, Option, sym, refl, ap, ◌∙◌, subst, inl, inr, ⊎_elim, arith}
+use Rattle.std.proofs.Common.{◌≡◌, ℕ, ◌≤◌, Bool, true, false, cond, ◌||◌, ◌⊎◌, List, length, get_or, ℤ, pos, ◌≤ℤ◌, ◌<ℤ◌, Some, None, Option, sym, refl, ap, ◌∙◌, subst, inl, inr, arith}
 use lib.Signed.{lt_z}
 use borrow.Author.Differences.{ints}
 use Rattle.std.proofs.lemmas.Bool.{cases_eq}
@@ -9,7 +9,7 @@ use Rattle.networks.specs.Nets.{IsAt}
 use Rattle.networks.specs.declared.network.Arc.{Arc}
 use Rattle.flows.specs.declared.steps.Step.{Step}
 use Rattle.flows.specs.Fits.{Fitting}
-use Rattle.flows.specs.Flows.{EachArc, Ends, Within}
+use Rattle.flows.specs.Flows.{EachArc, Ends}
 use Rattle.flows.specs.Kilter.{reduced, kilter_number, out_of_kilter}
 use Rattle.flows.specs.Laps.{near, far}
 use Rattle.flows.specs.Prices.{Raised}
@@ -19,7 +19,6 @@ use Rattle.flows.proofs.Group.{off_on, left, cancel}
 use Rattle.flows.proofs.Prices.{Allows, all_repriced}
 use Rattle.flows.proofs.Wants.{WantsMore, WantsLess, zero_kilter}
 use Rattle.labels.specs.declared.labelling.Labels.{Labels}
-use Rattle.labels.specs.Moves.{may}
 use Rattle.reach.specs.declared.scans.Best.{Best}
 use Rattle.reach.specs.Scans.{is_labelled, crossing_at, slack_at, AtMost, Across, Seen}
 use Rattle.reach.specs.Rises.{own_limit_at}

@@ -1,5 +1,5 @@
 -- A rise that brings the reduced cost of an arc that leads across to zero: its size, and where it brings the price of the far end.
-use Rattle.std.proofs.Common.{◌≡◌, ℕ, ◌+◌, ◌-◌, ◌<◌, ◌≤◌, Bool, true, false, cond, List, length, get_or, sym, refl, ap, ◌∙◌, subst, arith}
+use Rattle.std.proofs.Common.{◌≡◌, ◌+◌, ◌-◌, ◌≤◌, Bool, true, false, cond, List, length, sym, ap, ◌∙◌, subst, arith}
 use Rattle.costs.specs.Kinds.{Kind, Laws, minus}
 use Rattle.networks.specs.Limits.{cost_limit}
 use Rattle.networks.specs.declared.network.Arc.{Arc}
@@ -9,7 +9,7 @@ use Rattle.flows.specs.Laps.{near, far}
 use Rattle.flows.specs.Prices.{Raised}
 use Rattle.flows.proofs.Group.{size_neg, size_minus, size_reduced}
 use Rattle.flows.proofs.Nearer.{to_lands, from_lands}
-use Rattle.flows.proofs.Shifts.{SmallInside, raised_outside}
+use Rattle.flows.proofs.Shifts.{raised_outside}
 use Rattle.labels.specs.declared.labelling.Labels.{Labels}
 use Rattle.reach.specs.Scans.{is_labelled}
 use Rattle.reach.specs.Rises.{Risen}

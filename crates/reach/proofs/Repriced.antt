@@ -1,5 +1,5 @@
 -- Raised prices leave a labelling good: both ends of each arc that it was labelled over are labelled.
-use Rattle.std.proofs.Common.{◌≡◌, ℕ, ◌+◌, ◌-◌, ◌<◌, ◌≤◌, Bool, true, false, cond, ltb, List, length, get_or, ℤ, pos, sym, refl, ap, ◌∙◌, subst, ap₂, arith}
+use Rattle.std.proofs.Common.{◌≡◌, ℕ, ◌<◌, Bool, true, false, ltb, List, length, get_or, ℤ, pos, sym, ap, ◌∙◌, subst, ap₂, arith}
 use Rattle.std.proofs.lemmas.Bool.{lt-ltb, cond-true}
 use Rattle.costs.specs.Kinds.{Kind, minus}
 use Rattle.flows.specs.Kilter.{price, reduced}
@@ -8,8 +8,8 @@ use Rattle.networks.specs.declared.network.Arc.{Arc}
 use Rattle.flows.specs.declared.steps.Step.{Step}
 use Rattle.labels.specs.declared.labelling.Labels.{Labels}
 use Rattle.flows.specs.Laps.{near, far}
-use Rattle.labels.specs.Moves.{may, may_at}
-use Rattle.labels.specs.Good.{entry_at, node_at, place_of, Labelled, Open, Linked, Whole, Good}
+use Rattle.labels.specs.Moves.{may_at}
+use Rattle.labels.specs.Good.{entry_at, node_at, place_of, Open, Linked, Whole, Good}
 use Rattle.flows.proofs.ArcSums.{same_at}
 use Rattle.flows.specs.Prices.{Raised}
 use Rattle.reach.specs.Scans.{is_labelled}

@@ -1,5 +1,5 @@
 -- Labelling over an arc that leads across.
-use Rattle.std.proofs.Common.{◌≡◌, ℕ, ◌+◌, ◌-◌, ◌<◌, ◌≤◌, Bool, true, false, cond, not, ltb, List, length, get_or, ℤ, pos, Some, None, Option, sym, refl, ap, ◌∙◌, subst, ap₂, subst₂, arith}
+use Rattle.std.proofs.Common.{◌≡◌, ℕ, ◌-◌, ◌<◌, ◌≤◌, Bool, true, false, cond, not, ltb, List, length, get_or, ℤ, pos, Some, None, sym, refl, ap, ◌∙◌, subst, ap₂, subst₂, arith}
 use lib.Signed.{lt_z}
 use Rattle.std.proofs.lemmas.Bool.{ltb-true, ltb-false, lt-ltb, le-ltb, cond-true, cond-false}
 use Rattle.costs.specs.Kinds.{Kind, Laws, minus}
@@ -8,15 +8,15 @@ use Rattle.networks.specs.Nets.{IsAt}
 use Rattle.networks.specs.declared.network.Arc.{Arc}
 use Rattle.labels.specs.declared.labelling.Labels.{Labels}
 use Rattle.flows.specs.Laps.{near, far}
-use Rattle.flows.specs.Fits.{Fit, Fitting, Bounded, price_limit, change_limit}
+use Rattle.flows.specs.Fits.{Fit, Fitting}
 use Rattle.labels.specs.Moves.{may}
 use Rattle.labels.specs.Good.{node_at, place_of, Labelled, Good}
 use Rattle.flows.proofs.ArcSums.{same_at}
-use Rattle.flows.proofs.Group.{cancel, le_refl, left, size_neg, size_reduced}
+use Rattle.flows.proofs.Group.{cancel, le_refl, left}
 use Rattle.flows.proofs.Prices.{to_raised, from_raised}
 use Rattle.reach.specs.declared.scans.Best.{Best}
 use Rattle.flows.specs.Prices.{Raised}
-use Rattle.reach.specs.Scans.{is_labelled, crossing_at, slack_at, Across, BestIs, Ripe}
+use Rattle.reach.specs.Scans.{is_labelled, crossing_at, slack_at, BestIs, Ripe}
 
 across_ends : (x y : Bool) (p q : ℕ) (along : Bool) → ltb 0 p ≡ x → ltb 0 q ≡ y → cond x (cond y None (Some true)) (cond y (Some false) None) ≡ Some along → (0 < cond along p q) × (cond along q p ≡ 0)
 across_ends true false p q true u v e = (ltb-true 0 p u, omega (arith, ltb-false 0 q v))

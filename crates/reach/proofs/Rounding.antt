@@ -1,16 +1,16 @@
 -- What holds from round to round: how far prices can be from those at the start, by how many nodes are labelled.
-use Rattle.std.proofs.Common.{◌≡◌, ℕ, ◌+◌, ◌-◌, ◌*◌, ◌<◌, ◌≤◌, Bool, true, false, cond, ltb, ◌⊎◌, List, length, get_or, ℤ, pos, sym, refl, ap, ◌∙◌, subst, inl, inr, ⊎_elim, arith}
-use Rattle.std.proofs.lemmas.Bool.{ltb-true, ltb-false, lt-ltb, le-ltb, cases_lt}
+use Rattle.std.proofs.Common.{◌≡◌, ℕ, ◌+◌, ◌-◌, ◌*◌, ◌<◌, ◌≤◌, Bool, true, false, cond, List, length, get_or, ℤ, sym, refl, ap, ◌∙◌, subst, inl, inr, ⊎_elim, arith}
+use Rattle.std.proofs.lemmas.Bool.{ltb-true, ltb-false, cases_lt}
 use Rattle.costs.specs.Kinds.{Kind, Laws}
 use Rattle.networks.specs.declared.network.Arc.{Arc}
 use Rattle.flows.specs.declared.steps.Step.{Step}
 use Rattle.flows.specs.Fits.{Bounded, found_limit}
 use Rattle.flows.specs.Kilter.{price, reduced, kilter_number}
 use Rattle.flows.proofs.ArcSums.{each_at, each_from, each_long}
-use Rattle.flows.proofs.Group.{off_on, size_zero}
+use Rattle.flows.proofs.Group.{size_zero}
 use Rattle.flows.proofs.Shifts.{Shifted, SmallInside, SmallPrices, not_shifted, still_shifted, more_shifted, raised_inside, shift_small}
 use Rattle.labels.specs.declared.labelling.Labels.{Labels}
-use Rattle.labels.specs.Good.{entry_at, node_at, place_of, Labelled, Whole, Good, Grown}
+use Rattle.labels.specs.Good.{node_at, place_of, Whole, Good, Grown}
 use Rattle.labels.specs.Ways.{Chosen}
 use Rattle.reach.specs.Scans.{is_labelled}
 use Rattle.reach.specs.Rises.{Risen, Changed}

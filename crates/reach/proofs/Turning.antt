@@ -1,24 +1,21 @@
 -- What a round does, by what the next rise is for.
-use Rattle.std.proofs.Common.{◌≡◌, ℕ, ◌+◌, ◌<◌, ◌≤◌, Bool, true, false, cond, ◌⊎◌, List, length, get_or, ℤ, pos, Some, None, Option, sym, refl, ap, ◌∙◌, subst, inl, inr, arith}
+use Rattle.std.proofs.Common.{◌≡◌, ℕ, ◌+◌, ◌<◌, ◌≤◌, Bool, true, false, cond, List, length, get_or, ℤ, pos, Some, None, Option, sym, refl, ap, subst, inl, inr, arith}
 use Rattle.std.proofs.lemmas.Bool.{lt-ltb, le-ltb}
 use Rattle.costs.specs.Kinds.{Kind, Laws}
-use Rattle.networks.specs.Nets.{IsAt}
 use Rattle.networks.specs.declared.network.Arc.{Arc}
 use Rattle.flows.specs.declared.steps.Step.{Step}
-use Rattle.flows.specs.Fits.{Fit, Fitting, Bounded, price_limit, change_limit}
+use Rattle.flows.specs.Fits.{Fitting, Bounded, price_limit, change_limit}
 use Rattle.flows.specs.Kilter.{reduced, kilter_number}
 use Rattle.flows.specs.Laps.{near, far}
 use Rattle.flows.specs.Prices.{Raised}
 use Rattle.flows.proofs.ArcSums.{each_from}
 use Rattle.flows.proofs.Group.{le_refl}
 use Rattle.labels.specs.declared.labelling.Labels.{Labels}
-use Rattle.labels.specs.Good.{entry_at, node_at, place_of, Good, Grown}
+use Rattle.labels.specs.Good.{node_at, place_of, Good, Grown}
 use Rattle.labels.specs.Ways.{Chosen}
 use Rattle.labels.proofs.Extending.{grown_none}
 use Rattle.reach.specs.declared.scans.Best.{Best}
-use Rattle.reach.specs.declared.rises.Rise.{Rise}
 use Rattle.reach.specs.declared.rises.Rise.TheVariants.{Label, Kilter, Unlimited}
-use Rattle.reach.specs.declared.rounds.Round.{Round}
 use Rattle.reach.specs.declared.rounds.Round.TheVariants as round
 use Rattle.reach.specs.Scans.{is_labelled, AtMost, BestIs, Seen, Ripe}
 use Rattle.reach.specs.Rises.{own_limit_at, next_of, NextIs, Risen}

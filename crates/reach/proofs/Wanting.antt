@@ -1,14 +1,14 @@
 -- The chosen arc wants to gain or to lose; what a rise of prices by e, which brings its reduced cost from c to d, does to it.
-use Rattle.std.proofs.Common.{◌≡◌, ℕ, ◌≤◌, Bool, true, false, cond, ◌||◌, ◌⊎◌, List, ℤ, ◌≤ℤ◌, ◌<ℤ◌, Some, None, Option, sym, refl, ap, ◌∙◌, subst, subst₂, inl, inr, arith}
+use Rattle.std.proofs.Common.{◌≡◌, ℕ, Bool, true, false, cond, ◌||◌, ◌⊎◌, List, ℤ, ◌≤ℤ◌, ◌<ℤ◌, Some, None, Option, sym, refl, ap, ◌∙◌, subst, subst₂, inl, inr, arith}
 use lib.Signed.{lt_z}
 use borrow.Author.Differences.{ints}
 use Rattle.costs.specs.Kinds.{Kind, Laws}
 use Rattle.networks.specs.declared.network.Arc.{Arc}
 use Rattle.flows.specs.Flows.{Within}
-use Rattle.flows.specs.Kilter.{reduced, out_of_kilter}
-use Rattle.flows.proofs.Group.{off_on, comm, left, undo, cancel, cancel_le, le_refl, neg_up}
+use Rattle.flows.specs.Kilter.{reduced}
+use Rattle.flows.proofs.Group.{off_on, comm, left, cancel_le, neg_up}
 use Rattle.flows.proofs.Rooms.{Amiss}
-use Rattle.flows.proofs.Wants.{WantsMore, WantsLess, more_amiss, less_amiss, zero_kilter}
+use Rattle.flows.proofs.Wants.{WantsMore, WantsLess, more_amiss, less_amiss}
 use Rattle.labels.specs.Moves.{may}
 use Rattle.reach.specs.Rises.{own_limit_at}
 

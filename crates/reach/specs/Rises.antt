@@ -1,5 +1,5 @@
 -- How far prices rise next: to the chosen arc's own limit, or to the least slack.
-use Rattle.std.specs.Prelude.{◌≡◌, ℕ, ◌+◌, ◌≤◌, Bool, true, false, cond, ◌||◌, ◌⊎◌, List, ℤ, pos, Some, None, Option, int_lt, slice_index_or}
+use Rattle.std.specs.Prelude.{◌≡◌, ℕ, ◌+◌, ◌≤◌, Bool, false, cond, ◌||◌, ◌⊎◌, List, ℤ, pos, Some, None, Option, int_lt, slice_index_or}
 use Rattle.costs.specs.Kinds.{Kind}
 use Rattle.networks.specs.Limits.{cost_limit}
 use Rattle.networks.specs.Nets.{IsAt}

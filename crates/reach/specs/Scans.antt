@@ -1,11 +1,10 @@
 -- The arcs between the labelled nodes and the others, and the least slack on them.
-use Rattle.std.specs.Prelude.{◌≡◌, ℕ, ◌+◌, ◌-◌, ◌<◌, ◌≤◌, Bool, true, false, cond, List, length, ℤ, pos, Some, None, Option, int_lt, nat_lt, slice_index_or}
+use Rattle.std.specs.Prelude.{◌≡◌, ℕ, ◌<◌, Bool, true, false, cond, List, ℤ, pos, Some, None, Option, int_lt, nat_lt, slice_index_or}
 use Rattle.costs.specs.Kinds.{Kind}
 use Rattle.flows.specs.Kilter.{reduced}
 use Rattle.networks.specs.Nets.{IsAt}
 use Rattle.networks.specs.declared.network.Arc.{Arc}
 use Rattle.labels.specs.declared.labelling.Labels.{Labels}
-use Rattle.flows.specs.Laps.{near, far}
 use Rattle.labels.specs.Moves.{may, may_at}
 use Rattle.labels.specs.Good.{place_of}
 use Rattle.reach.specs.declared.scans.Best.{Best}

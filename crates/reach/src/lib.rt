@@ -1,4 +1,5 @@
 // Reach: from the source of a chosen arc to its sought node, with changes of prices on the way.
+#![tactic(auto)]
 
 mod rises;
 mod rounds;

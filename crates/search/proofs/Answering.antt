@@ -1,18 +1,15 @@
 -- What each end of the search comes to once the prices are tidied.
-use Rattle.std.proofs.Common.{◌≡◌, ℕ, suc, ◌+◌, ◌-◌, ◌*◌, ◌<◌, ◌≤◌, List, [], ◌∷◌, length, get_or, ℤ, pos, sym, refl, ap, ◌∙◌, subst, arith}
+use Rattle.std.proofs.Common.{◌≡◌, ℕ, suc, ◌-◌, ◌*◌, ◌<◌, ◌≤◌, List, [], ◌∷◌, length, get_or, ℤ, pos, sym, ◌∙◌, subst, arith}
 use Rattle.std.specs.List.{AllByRecursion as All}
 use Rattle.std.proofs.lemmas.List.{get_or_default}
 use Rattle.costs.specs.Kinds.{Kind, Laws, sums}
 use Rattle.networks.specs.declared.network.Arc.{Arc}
-use Rattle.networks.specs.Nets.{Net, IsAt, shown}
-use Rattle.flows.specs.Flows.{EachArc, Within, Least, Meets, Ends, total}
-use Rattle.flows.specs.Kilter.{reduced, out_of_kilter, InKilter, largest, kilter_sum, lap_limit}
-use Rattle.flows.specs.Cuts.{marked, MarksCut}
-use Rattle.flows.specs.Fits.{Bounded}
-use Rattle.flows.specs.Settles.{Tables, LeastLeft, PausedLeft, NoneLeft}
+use Rattle.flows.specs.Flows.{Meets, Ends, total}
+use Rattle.flows.specs.Kilter.{InKilter, largest}
+use Rattle.flows.specs.Cuts.{marked}
+use Rattle.flows.specs.Settles.{LeastLeft, PausedLeft, NoneLeft}
 use Rattle.flows.proofs.ArcSums.{all_from, each_from}
 use Rattle.flows.proofs.Cuts.{cut_found}
-use Rattle.flows.proofs.Fitted.{Passed}
 use Rattle.flows.proofs.Lapping.{laps_meet}
 use Rattle.flows.proofs.Settling.{lap_not_least}
 use Rattle.tidy.specs.Picks.{Tidied}

@@ -1,5 +1,5 @@
 -- Where the sought node is labelled, a lap is at hand that leads to a better flow.
-use Rattle.std.proofs.Common.{◌≡◌, ℕ, zero, suc, ◌+◌, ◌-◌, ◌<◌, ◌≤◌, ◌⊎◌, List, [], ◌∷◌, length, get_or, ℤ, pos, ◌≤ℤ◌, sym, refl, ap, ◌∙◌, subst, inl, inr, ⊎_elim, arith}
+use Rattle.std.proofs.Common.{◌≡◌, ℕ, zero, suc, ◌-◌, ◌<◌, ◌≤◌, List, [], ◌∷◌, length, get_or, ℤ, pos, refl, subst, ⊎_elim, arith}
 use Rattle.std.specs.List.{AllByRecursion as All}
 use Rattle.std.proofs.lemmas.Bool.{cases_eq}
 use Rattle.costs.specs.Kinds.{Kind, Laws}
@@ -8,8 +8,8 @@ use Rattle.flows.specs.declared.steps.Step.{Step}
 use Rattle.flows.specs.Fits.{Fitting, Small}
 use Rattle.flows.specs.Laps.{sent}
 use Rattle.labels.specs.declared.labelling.Labels.{Labels}
-use Rattle.labels.specs.Good.{entry_at, node_at, place_of, Good}
-use Rattle.labels.specs.Ways.{Way, Moving, FitsIn, Chosen, GoneRound}
+use Rattle.labels.specs.Good.{entry_at, place_of}
+use Rattle.labels.specs.Ways.{Way, Moving, FitsIn}
 use Rattle.labels.proofs.Rooming.{room_some}
 use Rattle.labels.proofs.Trails.{all_moving, gone}
 use Rattle.reach.specs.Rounds.{ChainFound}

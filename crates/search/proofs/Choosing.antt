@@ -1,12 +1,11 @@
 -- The step that an arc out of kilter wants.
-use Rattle.std.proofs.Common.{◌≡◌, ℕ, ◌<◌, ◌≤◌, Bool, true, false, cond, not, ◌&&◌, ◌⊎◌, List, length, get_or, ℤ, pos, ◌≤ℤ◌, ◌<ℤ◌, Some, None, Option, sym, refl, ap, ◌∙◌, subst, inl, inr, arith}
+use Rattle.std.proofs.Common.{◌≡◌, ℕ, ◌≤◌, Bool, true, false, cond, not, ◌&&◌, ◌⊎◌, List, length, get_or, ℤ, pos, ◌≤ℤ◌, ◌<ℤ◌, Some, None, sym, refl, ap, ◌∙◌, subst, inl, inr, arith}
 use lib.Signed.{lt_z}
 use Rattle.std.proofs.lemmas.Int.{ints}
-use Rattle.std.proofs.lemmas.Bool.{and_parts, not-true}
+use Rattle.std.proofs.lemmas.Bool.{not-true}
 use Rattle.costs.specs.Kinds.{Kind, Laws, less}
 use Rattle.networks.specs.declared.network.Arc.{Arc}
 use Rattle.networks.specs.Nets.{IsAt}
-use Rattle.flows.specs.declared.steps.Step.{Step}
 use Rattle.flows.specs.Laps.{near, far}
 use Rattle.flows.specs.Kilter.{reduced, way}
 use Rattle.flows.specs.Fits.{Fit}
@@ -14,7 +13,6 @@ use Rattle.flows.proofs.ArcSums.{same_at}
 use Rattle.flows.proofs.Rooms.{Amiss}
 use Rattle.flows.proofs.Wants.{WantsMore, WantsLess, more_amiss, less_amiss}
 use Rattle.labels.specs.Moves.{may}
-use Rattle.labels.specs.Ways.{Moving, Chosen}
 use Rattle.search.specs.Going.{Wanted}
 
 lower : (x y : ℤ) → x <ℤ y → lt_z x y ≡ true

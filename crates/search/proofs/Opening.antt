@@ -1,21 +1,19 @@
 -- Where no stop came, the search can begin.
-use Rattle.std.proofs.Common.{◌≡◌, ℕ, ◌-◌, ◌*◌, ◌<◌, ◌≤◌, Bool, true, false, cond, leb, List, length, get_or, ℤ, pos, nat_abs, sym, refl, ap, ◌∙◌, subst, mul-le-mul_left, arith}
+use Rattle.std.proofs.Common.{◌≡◌, ℕ, ◌-◌, ◌*◌, ◌<◌, ◌≤◌, Bool, true, false, cond, leb, List, length, get_or, ℤ, pos, nat_abs, sym, refl, ◌∙◌, subst, mul-le-mul_left, arith}
 use Rattle.std.proofs.lemmas.List.{get_or_default}
 use Rattle.std.proofs.lemmas.Bool.{leb-true}
 use Rattle.costs.specs.Kinds.{Kind, Laws}
-use Rattle.networks.specs.declared.network.Arc.{Arc}
 use Rattle.networks.specs.Limits.{flow_limit}
-use Rattle.networks.specs.Nets.{Net, IsAt, shown}
+use Rattle.networks.specs.Nets.{Net, shown}
 use Rattle.networks.proofs.Shown.{length_shown}
 use Rattle.flows.specs.Flows.{EachArc, Limited}
 use Rattle.flows.specs.Kilter.{largest}
-use Rattle.flows.specs.Fits.{Fitting, Small, Bounded}
 use Rattle.flows.proofs.ArcSums.{each_from}
 use Rattle.flows.proofs.Fitted.{Passed}
 use Rattle.flows.proofs.Group.{size_zero}
 use Rattle.flows.proofs.KilterSums.{sum_limited}
 use Rattle.tidy.proofs.Sounds.{sound_from}
-use Rattle.search.specs.Going.{Ready, Going}
+use Rattle.search.specs.Going.{Going}
 use Rattle.search.specs.Settling.{read_price_as}
 
 module _ {C : Type 0} (K : Kind C) (laws : Laws K) (n : Net C) (flow needs : List ℤ) (prices marks : ℕ) (p : Passed K n flow needs prices marks) where

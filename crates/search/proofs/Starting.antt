@@ -1,11 +1,9 @@
 -- A labelling of the source alone is good, and what reach then asks.
-use Rattle.std.proofs.Common.{◌≡◌, ℕ, ◌<◌, ◌≤◌, List, length, ℤ, sym, refl, ap, ◌∙◌, subst, arith}
+use Rattle.std.proofs.Common.{ℕ, ◌≤◌, List, length, ℤ, ◌∙◌, arith}
 use Rattle.costs.specs.Kinds.{Kind}
 use Rattle.networks.specs.declared.network.Arc.{Arc}
-use Rattle.flows.specs.Flows.{EachArc}
 use Rattle.labels.specs.declared.labelling.Labels.{Labels}
-use Rattle.labels.specs.Good.{Begun, Good, node_at}
-use Rattle.flows.specs.Fits.{Fitting, Bounded}
+use Rattle.labels.specs.Good.{Begun, Good}
 use Rattle.reach.specs.Rounds.{Repriced}
 use Rattle.search.specs.Going.{Ready}
 

@@ -1,10 +1,10 @@
 -- One step of the search: arc i is in kilter, or a lap was made.
-use Rattle.std.proofs.Common.{◌≡◌, ℕ, suc, ◌+◌, ◌<◌, ◌≤◌, false, ◌⊎◌, List, length, get_or, ℤ, pos, sym, refl, ap, ◌∙◌, subst, inl, inr, ⊎_elim, arith}
+use Rattle.std.proofs.Common.{◌≡◌, ℕ, suc, ◌+◌, ◌≤◌, List, get_or, ℤ, pos, sym, subst, ⊎_elim, arith}
 use Rattle.std.proofs.lemmas.Bool.{cases_eq}
 use Rattle.costs.specs.Kinds.{Kind, Laws}
 use Rattle.networks.specs.declared.network.Arc.{Arc}
 use Rattle.networks.specs.Nets.{IsAt}
-use Rattle.flows.specs.Kilter.{reduced, kilter_number, kilter_sum, out_of_kilter}
+use Rattle.flows.specs.Kilter.{reduced, kilter_number, kilter_sum}
 use Rattle.flows.specs.Laps.{Laps}
 use Rattle.flows.proofs.ArcSums.{each_getD}
 use Rattle.flows.proofs.Prices.{sum_falls}

@@ -1,11 +1,10 @@
 -- Tidied prices are tame, and raise no kilter number.
-use Rattle.std.proofs.Common.{◌≡◌, ℕ, suc, ◌-◌, ◌*◌, ◌<◌, ◌≤◌, List, [], ◌∷◌, length, get_or, ℤ, ◌≤ℤ◌, sym, refl, ap, ◌∙◌, subst, mul-le-mul_right, mul-le-mul_left, arith}
+use Rattle.std.proofs.Common.{◌≡◌, ℕ, suc, ◌-◌, ◌*◌, ◌≤◌, List, [], ◌∷◌, length, ℤ, ◌≤ℤ◌, refl, ◌∙◌, mul-le-mul_left, arith}
 use Rattle.std.specs.List.{AllByRecursion as All}
 use Rattle.costs.specs.Kinds.{Kind, Laws}
 use Rattle.networks.specs.declared.network.Arc.{Arc}
-use Rattle.flows.specs.Flows.{EachArc}
-use Rattle.flows.specs.Kilter.{reduced, kilter_number, largest}
-use Rattle.flows.specs.Fits.{Fit, Fitting, Bounded, found_limit}
+use Rattle.flows.specs.Kilter.{largest}
+use Rattle.flows.specs.Fits.{Fitting, Bounded}
 use Rattle.flows.proofs.Prices.{kept_signs_ease}
 use Rattle.tidy.specs.Picks.{Tidied}
 use Rattle.tidy.proofs.Sounds.{sound_from}

@@ -1,5 +1,5 @@
 -- What holds at each step of the search, and what one attempt at an arc does.
-use Rattle.std.specs.Prelude.{◌≡◌, ℕ, ◌+◌, ◌<◌, ◌≤◌, Bool, true, false, List, length, ℤ, pos, slice_index, slice_index_or}
+use Rattle.std.specs.Prelude.{◌≡◌, ℕ, ◌+◌, ◌<◌, ◌≤◌, false, List, length, ℤ, pos, slice_index, slice_index_or}
 use Rattle.costs.specs.Kinds.{Kind}
 use Rattle.networks.specs.declared.network.Arc.{Arc}
 use Rattle.networks.specs.Nets.{IsAt}
@@ -12,7 +12,6 @@ use Rattle.flows.specs.Cuts.{marked}
 use Rattle.flows.proofs.Cuts.{Stuck, Strained}
 use Rattle.labels.specs.Ways.{Chosen, GoneRound}
 use Rattle.search.specs.declared.seek.End.{End}
-use Rattle.search.specs.declared.seek.End.TheVariants as End
 use Rattle.search.specs.declared.attempts.Tried.{Tried}
 use Rattle.search.specs.declared.attempts.Tried.TheVariants.{Kilter, Lapped, Short, Cut}
 

@@ -3,6 +3,7 @@
 // `settle` answers least with the total and the laps, paused with the laps, or none; it refuses exactly
 // when the first stop says so. A guard over the lent flow puts it back as found unless the search commits,
 // which it does on the ways of least and paused only. Nothing is allocated.
+#![tactic(auto)]
 
 mod attempts;
 mod guard;

@@ -1,9 +1,9 @@
 -- The nearest slack, or where there is none any node that is not labelled, is a good pick.
-use Rattle.std.proofs.Common.{◌≡◌, ℕ, zero, suc, ◌+◌, ◌-◌, ◌*◌, ◌<◌, ◌≤◌, Bool, true, false, cond, List, [], ◌∷◌, length, get_or, Some, None, Option, sym, refl, ap, ◌∙◌, subst, ap₂, subst₂, arith}
+use Rattle.std.proofs.Common.{◌≡◌, ℕ, ◌+◌, ◌-◌, ◌<◌, ◌≤◌, Bool, true, false, cond, List, [], ◌∷◌, length, get_or, Some, None, sym, refl, ap, ◌∙◌, subst, arith}
 use Rattle.std.specs.List.{AllByRecursion as All}
 use Rattle.networks.specs.declared.network.Arc.{Arc}
 use Rattle.costs.specs.Kinds.{Kind, Laws, minus}
-use Rattle.flows.proofs.Group.{right, right_comm, swap, cancel, cancel_left, cancel_le, le_refl, size_zero, size_reduced, size_neg, size_minus}
+use Rattle.flows.proofs.Group.{right, swap, cancel, size_zero, size_reduced, size_neg, size_minus}
 use Rattle.tidy.specs.declared.picks.Pick.{Pick}
 use Rattle.tidy.specs.Picks.{slack_of, nearer, nearest_of, picked, unmarked, Raised, MarkedBounded, GoodPick, labelled_at, Sound}
 use Rattle.tidy.proofs.Order.{some_none, nearest_allows, nearest_is, nearest_none}

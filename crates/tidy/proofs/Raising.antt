@@ -1,7 +1,7 @@
 -- One price more is raised.
-use Rattle.std.proofs.Common.{◌≡◌, ℕ, ◌+◌, ◌<◌, ◌≤◌, Bool, true, false, cond, ◌≢◌, List, length, get_or, set, sym, refl, ap, ◌∙◌, subst, ap₂, arith, get_or-set_other, get_or-set_same, below_more}
+use Rattle.std.proofs.Common.{◌≡◌, ℕ, ◌+◌, ◌<◌, ◌≤◌, Bool, true, false, cond, ◌≢◌, List, length, get_or, set, sym, ap, ◌∙◌, subst, arith, get_or-set_other, get_or-set_same, below_more}
 use Rattle.std.proofs.lemmas.List.{get_or_read}
-use Rattle.costs.specs.Kinds.{Kind, Laws}
+use Rattle.costs.specs.Kinds.{Kind}
 use Rattle.flows.specs.Fits.{Bounded}
 
 -- below i the prices are raised, from i on they are as they were

@@ -1,9 +1,9 @@
 -- The nodes that are not labelled have their old prices with one shift added.
 -- Serves every labelling that changes the unmarked prices by one amount at a time; bounds are the caller's.
-use Rattle.std.proofs.Common.{◌≡◌, ℕ, ◌+◌, ◌<◌, ◌≤◌, Bool, true, false, cond, ◌≢◌, ◌⊎◌, List, length, get_or, set, sym, refl, ap, ◌∙◌, subst, ⊎_elim, arith, get_or-set_other, get_or-set_same}
+use Rattle.std.proofs.Common.{◌≡◌, ℕ, ◌+◌, ◌<◌, ◌≤◌, Bool, true, false, cond, ◌≢◌, List, length, get_or, set, sym, refl, ap, ◌∙◌, subst, ⊎_elim, arith, get_or-set_other, get_or-set_same}
 use Rattle.std.proofs.lemmas.Bool.{cases_eq}
 use Rattle.costs.specs.Kinds.{Kind, Laws, minus}
-use Rattle.flows.proofs.Group.{right, cancel, off_on, size_zero, size_minus}
+use Rattle.flows.proofs.Group.{right, cancel, off_on, size_minus}
 use Rattle.tidy.specs.Picks.{Raised, MarkedBounded, Shifted}
 use Rattle.tidy.proofs.Shifts.{back}
 use Rattle.flows.specs.Fits.{Bounded}

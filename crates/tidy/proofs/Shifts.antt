@@ -1,8 +1,8 @@
 -- Prices of the nodes that are not labelled changed by e: no sign turns where e is as near as every slack.
-use Rattle.std.proofs.Common.{◌≡◌, ℕ, zero, suc, ◌+◌, ◌-◌, ◌*◌, ◌<◌, ◌≤◌, Bool, true, false, cond, List, [], ◌∷◌, length, get_or, ℤ, pos, Some, None, Option, sym, refl, ap, ◌∙◌, subst, ap₂, subst₂, arith}
+use Rattle.std.proofs.Common.{◌≡◌, ◌-◌, Bool, true, false, cond, List, length, Some, None, sym, refl, ap, ◌∙◌, subst, ap₂, subst₂, arith}
 use Rattle.networks.specs.declared.network.Arc.{Arc}
 use Rattle.costs.specs.Kinds.{Kind, Laws, minus}
-use Rattle.flows.proofs.Group.{right, right_comm, swap, cancel, cancel_left, cancel_le, le_refl, times_zero}
+use Rattle.flows.proofs.Group.{right, right_comm, cancel, cancel_le}
 use Rattle.tidy.specs.declared.picks.Pick.{Pick}
 use Rattle.tidy.specs.Picks.{slack_of, nearer, picked, Raised, labelled_at}
 use Rattle.tidy.proofs.Order.{near_up, near_down}

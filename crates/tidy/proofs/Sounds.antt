@@ -1,11 +1,11 @@
 -- Networks that fit are sound for tidying.
-use Rattle.std.proofs.Common.{◌≡◌, ℕ, zero, suc, ◌≤◌, max, List, [], ◌∷◌, refl, ap, arith}
+use Rattle.std.proofs.Common.{ℕ, suc, ◌≤◌, List, [], ◌∷◌, refl, arith}
 use Rattle.std.specs.List.{AllByRecursion as All}
 use Rattle.costs.specs.Kinds.{Kind}
 use Rattle.networks.specs.declared.network.Arc.{Arc}
 use Rattle.flows.specs.Flows.{Ends}
 use Rattle.flows.specs.Kilter.{largest}
-use Rattle.flows.specs.Fits.{Fit, Fitting}
+use Rattle.flows.specs.Fits.{Fitting}
 use Rattle.tidy.specs.Picks.{Sound}
 
 module _ {C : Type 0} (K : Kind C) where

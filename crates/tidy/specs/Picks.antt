@@ -1,12 +1,12 @@
 -- The node that is labelled next, and by how much the prices of the nodes that are not yet labelled change.
-use Rattle.std.specs.Prelude.{◌≡◌, ℕ, suc, ◌+◌, ◌-◌, ◌*◌, ◌<◌, ◌≤◌, Bool, true, false, cond, not, ◌&&◌, ◌||◌, List, [], ◌∷◌, length, get_or, Some, None, Option, slice_index_or}
+use Rattle.std.specs.Prelude.{◌≡◌, ℕ, suc, ◌+◌, ◌-◌, ◌*◌, ◌<◌, ◌≤◌, Bool, true, false, cond, ◌&&◌, ◌||◌, List, [], ◌∷◌, length, get_or, Some, None, Option, slice_index_or}
 use Rattle.std.specs.List.{AllByRecursion as All}
 use Rattle.networks.specs.declared.network.Arc.{Arc}
 use Rattle.costs.specs.Kinds.{Kind}
 use Rattle.tidy.specs.declared.picks.Pick.{Pick}
 use Rattle.flows.specs.Kilter.{reduced, largest}
 use Rattle.flows.specs.Flows.{Ends}
-use Rattle.flows.specs.Prices.{SignKept, SignsKept}
+use Rattle.flows.specs.Prices.{SignsKept}
 use Rattle.flows.specs.Fits.{Bounded, change_limit}
 
 -- the node is labelled: of marks with node 1's first

@@ -1,5 +1,5 @@
 -- Powers of ten.
-use Rattle.std.proofs.Common.{◌≡◌, ℕ, suc, ◌+◌, ◌*◌, ◌^◌, ◌≤◌, ap, ◌∙◌, add-one, lit<}
+use Rattle.std.proofs.Common.{◌≡◌, ℕ, ◌+◌, ◌*◌, ◌^◌, ◌≤◌, ap, ◌∙◌, add-one, lit<}
 use native.Mathlib.Nat.{pow-succ', pow-le-pow_right}
 
 pub next_ten : (i : ℕ) → 10 ^ (i + 1) ≡ 10 * 10 ^ i

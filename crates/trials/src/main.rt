@@ -1,4 +1,5 @@
 // The program `trials`: worked networks settled one after another, a line each.
+#![tactic(auto)]
 
 mod tables;
 mod worked;

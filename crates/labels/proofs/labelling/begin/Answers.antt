@@ -1,9 +1,9 @@
-use Rattle.std.proofs.Common.{◌≡◌, ℕ, ◌-◌, ◌<◌, ◌≤◌, false, List, length, get_or, replicate, sym, refl, ap, ◌∙◌, subst, ⊎_elim, arith}
+use Rattle.std.proofs.Common.{◌≡◌, ℕ, ◌-◌, ◌<◌, ◌≤◌, false, List, get_or, replicate, sym, refl, ap, ◌∙◌, subst, ⊎_elim, arith}
 use Rattle.std.proofs.lemmas.List.{length-replicate, get_or-replicate, get_or_past}
 use Rattle.std.proofs.lemmas.Bool.{cases_lt}
 use Rattle.labels.specs.declared.labelling.Entry.{Entry}
 use Rattle.labels.specs.declared.labelling.Labels.{Labels}
-use Rattle.labels.specs.Good.{Whole, Begun, pushed, node_at, place_of}
+use Rattle.labels.specs.Good.{Whole, Begun, pushed}
 use Rattle.labels.proofs.More.{whole_more, entry_new}
 use Rattle.labels.proofs.labelling.begin.Goals as goal
 

@@ -1,7 +1,7 @@
-use Rattle.std.proofs.Common.{◌≡◌, ℕ, ◌<◌, ◌≤◌, length, get_or, pos, sym, ap, ◌∙◌, subst, arith, w32, SFits, rules}
+use Rattle.std.proofs.Common.{◌≡◌, ℕ, ◌≤◌, get_or, pos, sym, ap, ◌∙◌, subst, arith, w32, SFits, rules}
 use Rattle.std.proofs.lemmas.Int.{to_z-of_z}
 use Rattle.networks.specs.Nets.{shown}
-use Rattle.networks.proofs.Shown.{arc_is, never_absent, length_shown}
+use Rattle.networks.proofs.Shown.{arc_is}
 use Rattle.flows.specs.Laps.{far}
 use Rattle.labels.specs.Moves.{may_at}
 use Rattle.labels.specs.Good.{Good, Grown, node_at, pushed}

@@ -1,4 +1,4 @@
-use Rattle.std.proofs.Common.{◌≡◌, ℕ, ◌<◌, false, length, sym, refl, ap, ◌∙◌, subst, arith}
+use Rattle.std.proofs.Common.{◌<◌, length, sym, refl, subst, arith}
 use Rattle.networks.specs.Nets.{shown}
 use Rattle.networks.proofs.Shown.{length_shown}
 use Rattle.labels.specs.declared.labelling.Labels.{Labels}

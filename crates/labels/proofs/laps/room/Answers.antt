@@ -1,4 +1,4 @@
-use Rattle.std.proofs.Common.{◌≡◌, ◌≤◌, length, get_or, pos, nat_abs, sym, ◌∙◌, subst, arith, w32, SFits, to_z, of_z, rules}
+use Rattle.std.proofs.Common.{◌≤◌, length, get_or, pos, nat_abs, sym, ◌∙◌, subst, arith, w32, SFits, to_z, of_z, rules}
 use Rattle.std.proofs.lemmas.Int.{to_z-of_z}
 use Rattle.networks.specs.Nets.{shown}
 use Rattle.networks.proofs.Shown.{arc_is, never_absent, length_shown}

@@ -1,4 +1,4 @@
-use Rattle.std.proofs.Common.{◌≡◌, ◌+◌, ◌<◌, ◌≤◌, length, drop}
+use Rattle.std.proofs.Common.{◌≡◌, ◌<◌, ◌≤◌, length, drop}
 use Rattle.labels.specs.Ways.{Way}
 use Rattle.labels.proofs.laps.trace.Given as goal
 

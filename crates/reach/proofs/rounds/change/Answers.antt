@@ -1,4 +1,4 @@
-use Rattle.std.proofs.Common.{◌≤◌, length, arith}
+use Rattle.std.proofs.Common.{arith}
 use Rattle.networks.specs.Nets.{shown}
 use Rattle.reach.proofs.Turning.{cut_done, kilter_small, kilter_done, label_small, label_short, label_fitting, label_good, label_ripe, label_done}
 use Rattle.reach.proofs.rounds.change.Goals as goal

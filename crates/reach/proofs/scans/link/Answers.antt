@@ -1,4 +1,4 @@
-use Rattle.std.proofs.Common.{◌≡◌, ℕ, ◌-◌, ◌<◌, ◌≤◌, Bool, not, sym, refl, ap, ◌∙◌, subst, arith, rules}
+use Rattle.std.proofs.Common.{◌≡◌, ℕ, ◌-◌, ◌≤◌, sym, ap, ◌∙◌, subst, arith}
 use Rattle.flows.specs.Laps.{far}
 use Rattle.labels.specs.Good.{Good, Grown, node_at, place_of, pushed}
 use Rattle.networks.specs.Nets.{shown}

@@ -1,4 +1,4 @@
-use Rattle.std.proofs.Common.{◌≡◌, ◌<◌, length, sym, ◌∙◌, subst, arith}
+use Rattle.std.proofs.Common.{◌≡◌, length, subst, arith}
 use Rattle.networks.specs.Nets.{shown}
 use Rattle.networks.proofs.Shown.{length_shown}
 use Rattle.reach.specs.Scans.{Seen}

@@ -1,4 +1,4 @@
-use Rattle.std.proofs.Common.{◌≡◌, ◌≤◌, get_or, sym, ap, subst, arith, below_more}
+use Rattle.std.proofs.Common.{◌≤◌, subst, arith, below_more}
 use Rattle.std.proofs.lemmas.List.{get_or_read}
 use Rattle.reach.specs.Rounds.{large}
 use Rattle.search.proofs.attempts.any_large.Goals as goal

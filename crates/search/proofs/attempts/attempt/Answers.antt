@@ -1,7 +1,6 @@
-use Rattle.std.proofs.Common.{◌≡◌, ℕ, ◌<◌, ◌≤◌, true, false, length, sym, refl, ap, ◌∙◌, subst, arith}
+use Rattle.std.proofs.Common.{◌≡◌, ℕ, ◌≤◌, length, sym, refl, ◌∙◌, subst, arith}
 use Rattle.networks.specs.Nets.{shown}
 use Rattle.flows.specs.Fits.{Fitting}
-use Rattle.labels.specs.Good.{node_at}
 use Rattle.labels.specs.Ways.{Chosen}
 use Rattle.search.specs.Going.{KilterAt}
 use Rattle.search.proofs.Taming.{eased_both}

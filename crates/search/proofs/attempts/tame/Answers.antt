@@ -1,4 +1,4 @@
-use Rattle.std.proofs.Common.{◌≡◌, sym, subst, arith}
+use Rattle.std.proofs.Common.{sym, subst, arith}
 use Rattle.networks.specs.Nets.{shown}
 use Rattle.flows.specs.Fits.{Fitting}
 use Rattle.search.proofs.Taming.{eased_same, tidied_tame, tidied_ready, tidied_eased}

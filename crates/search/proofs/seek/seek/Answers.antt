@@ -1,4 +1,4 @@
-use Rattle.std.proofs.Common.{◌≡◌, ◌≤◌, length, sym, refl, ap, ◌∙◌, subst, arith}
+use Rattle.std.proofs.Common.{◌≡◌, length, refl, ap, ◌∙◌, subst, arith}
 use Rattle.networks.specs.Nets.{shown}
 use Rattle.search.specs.Going.{Going}
 use Rattle.search.proofs.seek.seek.Goals as goal

@@ -1,4 +1,4 @@
-use Rattle.std.proofs.Common.{◌≡◌, length, drop, arith}
+use Rattle.std.proofs.Common.{drop, arith}
 use Rattle.std.proofs.lemmas.List.{drop_all}
 use Rattle.networks.specs.Nets.{shown}
 use Rattle.networks.proofs.Shown.{never_absent, arc_first, length_shown}

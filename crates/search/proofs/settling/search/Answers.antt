@@ -1,4 +1,4 @@
-use Rattle.std.proofs.Common.{◌≡◌, length, ◌∙◌, arith}
+use Rattle.std.proofs.Common.{length, ◌∙◌, arith}
 use Rattle.networks.specs.Nets.{shown}
 use Rattle.networks.proofs.Shown.{length_shown}
 use Rattle.search.proofs.Answering.{ended_ready}

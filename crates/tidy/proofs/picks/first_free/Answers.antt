@@ -1,4 +1,4 @@
-use Rattle.std.proofs.Common.{◌≡◌, ◌<◌, ◌≤◌, drop, sym, ap, subst, arith, rules}
+use Rattle.std.proofs.Common.{ap, arith}
 use Rattle.std.proofs.lemmas.List.{drop_all}
 use Rattle.tidy.specs.Picks.{unmarked}
 use Rattle.tidy.proofs.Marks.{pass_labelled_at}

@@ -1,7 +1,6 @@
 use Rattle.tidy.proofs.Sounds.{sound_from}
 use Rattle.networks.specs.Nets.{shown}
-use Rattle.std.proofs.Common.{◌≡◌, ◌+◌, ◌-◌, ◌<◌, Bool, false, length, get_or, sym, ap, ◌∙◌, subst, ap₂, arith, rules}
-use Rattle.tidy.specs.Picks.{GoodPick, picked}
+use Rattle.std.proofs.Common.{◌≡◌, ◌+◌, ◌-◌, ◌<◌, length, get_or, ap, ◌∙◌, arith}
 use Rattle.tidy.proofs.Picking.{nearest_good, any_good}
 use Rattle.tidy.proofs.picks.next_pick.Goals as goal
 

@@ -1,11 +1,8 @@
 use Rattle.flows.specs.Fits.{Fitting}
 use Rattle.tidy.proofs.Sounds.{sound_from}
 use Rattle.networks.specs.Nets.{shown}
-use Rattle.std.proofs.Common.{◌≡◌, ◌+◌, ◌<◌, ◌≤◌, length, sym, refl, ap, ◌∙◌, subst, ap₂, arith, rules}
-use Rattle.tidy.specs.Picks.{Sound}
-use Rattle.flows.specs.Fits.{Bounded}
-use Rattle.tidy.specs.Picks.{GoodPick, unmarked}
-use Rattle.tidy.proofs.Turns.{Tidying, start, all_moderate, finish, labelled}
+use Rattle.std.proofs.Common.{sym, ◌∙◌, subst, arith}
+use Rattle.tidy.proofs.Turns.{start, all_moderate, finish, labelled}
 use Rattle.tidy.proofs.tidying.label_all.Goals as goal
 
 pub loop-i-init : goal.loop-i-init

@@ -1,4 +1,4 @@
-use Rattle.std.proofs.Common.{◌≡◌, ◌+◌, ◌<◌, ◌≤◌, sym, subst, arith, rules}
+use Rattle.std.proofs.Common.{◌+◌, sym, subst, arith}
 use Rattle.flows.specs.Fits.{price_limit}
 use Rattle.tidy.proofs.Raising.{Half, pass, put, read_small}
 use Rattle.tidy.proofs.tidying.raise.Goals as goal

@@ -1,4 +1,4 @@
-use Rattle.std.proofs.Common.{length, rules}
+use Rattle.std.proofs.Common.{length}
 use Rattle.tidy.proofs.Marks.{all_clear, front_long}
 use Rattle.tidy.proofs.tidying.tidy.Goals as goal
 
