@@ -1,5 +1,5 @@
 -- What a closing answers and leaves, from what the network below does.
-use Rattle.std.proofs.Common.{◌≡◌, ℕ, suc, ◌+◌, ◌-◌, ◌<◌, ◌≤◌, Bool, true, false, cond, ◌||◌, eqb, ltb, leb, List, [], ◌∷◌, ◌++◌, map, length, get_or, set, ℤ, Some, None, Ok, Err, Option, sym, refl, ap, ◌∙◌, ap₂, arith}
+use Rattle.std.proofs.Common.{◌≡◌, ℕ, ◌+◌, ◌-◌, ◌<◌, ◌≤◌, Bool, true, false, cond, ◌||◌, eqb, ltb, leb, List, [], ◌∷◌, ◌++◌, map, length, get_or, set, ℤ, Some, None, Ok, Option, sym, refl, ap, ◌∙◌, ap₂, arith}
 use Rattle.std.specs.List.{slice_get}
 use Rattle.std.specs.Option.{option_map}
 use Rattle.std.proofs.lemmas.List.{length-map, length-append, map-set, set-append_left, set_at}
@@ -8,7 +8,7 @@ use Rattle.std.proofs.lemmas.Bool.{leb-true, leb-false, le-leb, lt-leb}
 use Rattle.networks.specs.declared.network.Arc.{Arc}
 use Rattle.networks.specs.Limits.{most_nodes, most_arcs, cost_limit}
 use Rattle.networks.specs.Answers.{Told, answer, unless}
-use Rattle.networks.specs.Nets.{Lock, Net, numbered, replaced, is_out, shown_arc, arc_at, held_stop, rebound_stop, with_bounds, rebounded, cost_stop, recost_stop, with_cost, recosted, lock_at, with_lock, relocked, line_stop, take_out_stop, relined, taken, back_stop, hand_back_stop, handed_back}
+use Rattle.networks.specs.Nets.{Lock, Net, numbered, replaced, shown_arc, arc_at, held_stop, rebound_stop, with_bounds, rebounded, cost_stop, recost_stop, with_cost, recosted, lock_at, relocked, line_stop, take_out_stop, relined, taken, back_stop, hand_back_stop, handed_back}
 use Rattle.layers.specs.declared.entry.Span.{Span}
 use Rattle.layers.specs.declared.entry.Entry.{Entry}
 use Rattle.layers.specs.Closings.{entry_arc, return_arc, within, closed_net, closing_stop, no_net, closing_net, is_lower}
@@ -215,9 +215,9 @@ module _ {C : Type 0} (n : Net C) (zero : C) (es : List Entry) (b : Span) (c : C
     lower : a ≤ count
     lower = (lower_means a is).1
 
-    relocked_lower : (x y : ℕ) (s z : Option Told) → s ≡ z → closing_net (unless s n (relocked n l (relined x y))) zero es b c ≡ unless z net (relocked net l (relined x y))
-    relocked_lower x y s z q =
-        let put = ap (λ (os : List Lock). record { nodes = n.nodes + 2; arcs = n.arcs ++ own; locks = os }) (with_through count l x y n.locks) in
+    relocked_lower : (x y : ℕ) → x ≤ count → y ≤ count → (s z : Option Told) → s ≡ z → closing_net (unless s n (relocked n l (relined x y))) zero es b c ≡ unless z net (relocked net l (relined x y))
+    relocked_lower x y hx hy s z q =
+        let put = ap (λ (os : List Lock). record { nodes = n.nodes + 2; arcs = n.arcs ++ own; locks = os }) (with_through count l x y hx hy n.locks) in
         let same : closing_net (relocked n l (relined x y)) zero es b c ≡ relocked net l (relined x y) = ap (λ o. unless o no_net (closed_net (relocked n l (relined x y)) zero es b c)) e ∙ put ∙ ap (λ m. relocked m l (relined x y)) (fit e) in
         past_unless (λ m. closing_net m zero es b c) s n (relocked n l (relined x y)) ∙ ap₂ (λ o m. unless o net m) q same
 
@@ -225,13 +225,13 @@ module _ {C : Type 0} (n : Net C) (zero : C) (es : List Entry) (b : Span) (c : C
     take_stop_lower = sym (line_lower count a lower (lock_at n.locks l)) ∙ ap (line_stop a) (sym (lock_through count l n.locks)) ∙ ap (λ m. take_out_stop m l a) (fit e)
 
     pub taken_lower : (m : Net C) → m ≡ taken n l a → closing_net m zero es b c ≡ taken net l a
-    taken_lower m q = ap (λ k. closing_net k zero es b c) q ∙ relocked_lower 0 a _ _ take_stop_lower
+    taken_lower m q = ap (λ k. closing_net k zero es b c) q ∙ relocked_lower 0 a (omega arith) lower _ _ take_stop_lower
 
     pub back_stop_lower : hand_back_stop n l a ≡ hand_back_stop net l a
     back_stop_lower = sym (back_lower count a lower (lock_at n.locks l)) ∙ ap (back_stop a) (sym (lock_through count l n.locks)) ∙ ap (λ m. hand_back_stop m l a) (fit e)
 
     pub handed_lower : (m : Net C) → m ≡ handed_back n l a → closing_net m zero es b c ≡ handed_back net l a
-    handed_lower m q = ap (λ k. closing_net k zero es b c) q ∙ relocked_lower a 0 _ _ back_stop_lower
+    handed_lower m q = ap (λ k. closing_net k zero es b c) q ∙ relocked_lower a 0 lower (omega arith) _ _ back_stop_lower
 
   module _ (l a : ℕ) (is : is_lower n a ≡ false) where
     -- a lock-out there, if any, does not stand over arc a

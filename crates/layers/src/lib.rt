@@ -7,6 +7,7 @@
 //
 // Lock-outs below are reached through it under their numbers, over the arcs below only: an entry and the
 // return arc can be taken out at a lock-out that is put over the closing.
+#![tactic(auto)]
 
 mod closing;
 mod entries;

@@ -1,4 +1,5 @@
 // Runs on piles of layers, and on hour chains.
+#![tactic(auto)]
 
 #[cfg(test)]
 mod piles;

@@ -1,10 +1,9 @@
 -- One call of a list, and one call more.
-use Rattle.std.proofs.Common.{◌≡◌, ℕ, suc, ◌+◌, ◌<◌, ◌≤◌, Bool, true, false, cond, List, [], ◌∷◌, ◌++◌, length, get_or, take, drop, set, ℤ, Some, None, Ok, Err, Option, Result, sym, refl, ap, ◌∙◌, subst, inl, inr, arith}
+use Rattle.std.proofs.Common.{◌≡◌, ℕ, ◌+◌, ◌<◌, ◌≤◌, Bool, true, false, cond, List, [], ◌∷◌, ◌++◌, length, get_or, take, drop, set, ℤ, Some, None, Ok, Err, Option, Result, sym, refl, ap, ◌∙◌, subst, inl, inr, arith}
 use Rattle.std.specs.Option.{option_map}
 use Rattle.std.proofs.lemmas.List.{length-set, drop-set-lt, drop-drop, get_or_default}
 use Rattle.costs.specs.Kinds.{Kind, Laws}
 use Rattle.networks.specs.declared.stops.Stop.{Stop}
-use Rattle.networks.specs.Stops.{told}
 use Rattle.networks.specs.Answers.{Told, answer, said, unless}
 use Rattle.networks.specs.Nets.{Net}
 use Rattle.flows.specs.Settles.{Tables}
@@ -12,7 +11,7 @@ use Rattle.runs.specs.declared.calls.Call.{Call}
 use Rattle.runs.specs.declared.calls.Outcome.{Outcome}
 use Rattle.runs.specs.States.{State}
 use Rattle.runs.specs.Events.{Asked, Came, is_granted, Event, event, asked, came, events}
-use Rattle.runs.specs.Steps.{Step, Steps}
+use Rattle.runs.specs.Steps.{Steps}
 use Rattle.runs.proofs.Law.{steps_more}
 use Rattle.runs.proofs.Since.{events_more}
 use Rattle.plans.specs.Keeping.{done_came, Keeps}

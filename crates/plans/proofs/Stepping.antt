@@ -1,18 +1,17 @@
 -- A call whose answer and whose effect are equations takes its step, and keeps the law.
-use Rattle.std.proofs.Common.{◌≡◌, ℕ, List, length, ℤ, Some, None, Ok, Err, Option, Result, sym, refl, ap, ◌∙◌, subst, arith}
+use Rattle.std.proofs.Common.{◌≡◌, ℕ, List, ℤ, Some, None, Ok, Err, Option, Result, sym, refl, ap, ◌∙◌, subst, arith}
 use Rattle.costs.specs.Kinds.{Kind, Laws}
 use Rattle.networks.specs.declared.stops.Stop.{Stop}
 use Rattle.networks.specs.declared.tags.Tag.{Tag}
 use Rattle.networks.specs.Stops.{told}
 use Rattle.networks.specs.Answers.{Told, answer, said, tagged, refusal, returned, answer_back, unless}
-use Rattle.networks.specs.Nets.{Net, shown, rebound_stop, rebounded, recost_stop, recosted, take_out_stop, taken, hand_back_stop, handed_back}
-use Rattle.flows.specs.Stops.{first_stop}
-use Rattle.flows.specs.Settles.{Tables, Settles}
+use Rattle.networks.specs.Nets.{Net, rebound_stop, rebounded, recost_stop, recosted, take_out_stop, taken, hand_back_stop, handed_back}
+use Rattle.flows.specs.Settles.{Tables}
 use Rattle.search.specs.declared.settling.Answer.{Answer}
 use Rattle.search.specs.Settling.{Settled, answered}
 use Rattle.runs.specs.States.{State, with_net, with_flow}
-use Rattle.runs.specs.Events.{Asked, settle, rebound, recost, take_out, hand_back, take_up, Came, settled, done, refused, Event, event}
-use Rattle.runs.specs.Steps.{stop_of, Does, Grants, Step}
+use Rattle.runs.specs.Events.{Asked, settle, rebound, recost, take_out, hand_back, take_up, Came, done, refused, Event, event}
+use Rattle.runs.specs.Steps.{stop_of, Grants, Step}
 use Rattle.runs.proofs.Law.{lawful}
 use Rattle.plans.specs.Keeping.{settle_came, done_came, back_came, Keeps, KeepsTables}
 

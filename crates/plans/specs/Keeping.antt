@@ -1,5 +1,5 @@
 -- What every call on a plan owes: it takes its step, and whatever run led to the plan found, the law holds with it added.
-use Rattle.std.specs.Prelude.{◌≡◌, ℕ, List, Ok, Err, Result}
+use Rattle.std.specs.Prelude.{Ok, Err, Result}
 use Rattle.costs.specs.Kinds.{Kind}
 use Rattle.networks.specs.declared.stops.Stop.{Stop}
 use Rattle.networks.specs.declared.tags.Tag.{Tag}

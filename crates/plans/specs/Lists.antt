@@ -1,5 +1,5 @@
 -- What a list of calls does: which of them were made, their outcomes, the plan, and the ring that keeps their tags.
-use Rattle.std.specs.Prelude.{◌≡◌, ℕ, ◌<◌, ◌≤◌, Bool, true, false, cond, ◌⊎◌, List, [], ◌∷◌, length, take, drop, ℤ, Some, None, Ok, Err, Option, Result}
+use Rattle.std.specs.Prelude.{◌≡◌, ℕ, ◌≤◌, false, cond, ◌⊎◌, List, [], ◌∷◌, length, take, drop, ℤ, Some, None, Ok, Err, Option, Result}
 use Rattle.costs.specs.Kinds.{Kind}
 use Rattle.networks.specs.declared.stops.Stop.{Stop}
 use Rattle.networks.specs.Stops.{told}
@@ -10,7 +10,7 @@ use Rattle.search.specs.declared.settling.Answer.{Answer}
 use Rattle.runs.specs.declared.calls.Call.{Call}
 use Rattle.runs.specs.declared.calls.Outcome.{Outcome}
 use Rattle.runs.specs.States.{State, opening_stop, opened}
-use Rattle.runs.specs.Events.{Asked, settle, rebound, recost, take_out, hand_back, take_up, Came, refused, is_granted, Event, event, asked, came, events}
+use Rattle.runs.specs.Events.{Asked, settle, rebound, recost, take_out, hand_back, take_up, refused, is_granted, Event, event, asked, came, events}
 use Rattle.runs.specs.Steps.{Steps}
 use Rattle.runs.specs.Runs.{Run}
 use Rattle.plans.specs.Keeping.{settle_came, Keeps}

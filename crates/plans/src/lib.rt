@@ -8,6 +8,7 @@
 // `settle_new` opens a plan and settles it at once.
 // All of it is proved for every network with the trait's meaning, every pile of layers and every cost kind.
 // Nothing is allocated, and nothing is required of a caller.
+#![tactic(auto)]
 
 mod changing;
 mod fresh;

@@ -1,4 +1,5 @@
 // Plans on examples: lists of calls made by `run` on tables, among them one that drives prices up.
+#![tactic(auto)]
 
 #[cfg(test)]
 mod doubling;

@@ -1,11 +1,9 @@
 -- What each granted call does to a network: to ends, to the bounds and costs beneath lock-outs, and to what is out.
-use Rattle.std.proofs.Common.{◌≡◌, ℕ, zero, suc, ◌-◌, Bool, true, false, cond, eqb, leb, ◌⊎◌, ◌↔◌, List, [], ◌∷◌, set, ℤ, Some, None, Option, sym, refl, ap, ◌∙◌, subst, inl, inr, ⊎_elim, arith}
+use Rattle.std.proofs.Common.{◌≡◌, ℕ, zero, suc, ◌-◌, Bool, true, false, cond, eqb, ◌⊎◌, ◌↔◌, List, [], ◌∷◌, set, ℤ, Some, None, Option, sym, refl, ap, ◌∙◌, subst, inl, inr, ⊎_elim, arith}
 use Rattle.std.specs.List.{slice_get}
 use Rattle.std.specs.Option.{option_map}
-use Rattle.std.proofs.lemmas.Bool.{cond-true, cond-false, eqb-false, ne_eqb, cases_eq}
-use Rattle.costs.specs.Kinds.{Kind}
+use Rattle.std.proofs.lemmas.Bool.{cond-false, eqb-false, cases_eq}
 use Rattle.networks.specs.declared.network.Arc.{Arc}
-use Rattle.networks.specs.Limits.{cost_limit}
 use Rattle.networks.specs.Answers.{Told, unless}
 use Rattle.networks.specs.Nets.{Lock, Net, numbered, replaced, shown, shown_arc, is_out, arc_at, held_stop, rebound_stop, with_bounds, rebounded, cost_stop, recost_stop, with_cost, recosted, lock_at, with_lock, relocked, line_stop, take_out_stop, relined, taken, back_stop, hand_back_stop, handed_back, out_at}
 use Rattle.runs.specs.States.{out_of, out_in}

@@ -1,26 +1,24 @@
 -- The law over runs, from what one call does.
-use Rattle.std.proofs.Common.{◌≡◌, ℕ, ◌-◌, ◌<◌, ◌≤◌, Bool, true, false, cond, ◌⊎◌, ◌↔◌, List, [], ◌∷◌, ◌++◌, length, get_or, ℤ, pos, Some, None, Option, sym, refl, ap, ◌∙◌, subst, subst₂, inl, inr, arith}
+use Rattle.std.proofs.Common.{◌≡◌, ℕ, ◌-◌, ◌<◌, ◌≤◌, Bool, true, false, ◌⊎◌, ◌↔◌, List, [], ◌∷◌, ◌++◌, length, get_or, ℤ, pos, Some, sym, refl, ap, ◌∙◌, subst, subst₂, inl, inr, arith}
 use Rattle.std.specs.List.{AllByRecursion as All}
 use Rattle.std.proofs.ByRecursion.{All-push}
 use Rattle.std.proofs.lemmas.Bool.{cond-true, cond-false}
 use Rattle.costs.specs.Kinds.{Kind, Laws, sums}
 use Rattle.networks.specs.declared.network.Arc.{Arc}
-use Rattle.networks.specs.Nets.{Lock, Net, numbered, shown, shown_arc, is_out, arc_at, lock_at, out_at}
-use Rattle.networks.proofs.Shown.{length_shown}
-use Rattle.flows.specs.Flows.{imbalance, imbalances_from, total, EachArc, Ends, Within, Meets, SameImbalances, Least}
+use Rattle.networks.specs.Nets.{Net, numbered, shown, shown_arc, is_out, arc_at}
+use Rattle.flows.specs.Flows.{imbalance, total, EachArc, Ends, Within, Meets, SameImbalances, Least}
 use Rattle.flows.specs.Kilter.{lap_limit}
 use Rattle.flows.specs.Cuts.{MarksCut}
-use Rattle.flows.specs.Settles.{Tables, Answered, least, paused, none, Settles}
+use Rattle.flows.specs.Settles.{Answered, least, paused, none, Settles}
 use Rattle.flows.proofs.Fitted.{Passed, no_stop}
 use Rattle.flows.proofs.Needing.{imbalances_long, imbalances_meet}
 use Rattle.flows.proofs.Settling.{left_is_least, left_is_none}
-use Rattle.runs.specs.States.{State, New, opened, out_of, out_in, NoneOut}
-use Rattle.runs.specs.Events.{settle, rebound, recost, take_out, hand_back, take_up, settled, done, refused, Event, is_granted, Granted, GrantedCall, SomeSince, LastAnswered, Rebounds, Recosts}
+use Rattle.runs.specs.States.{State, New, out_of, out_in, NoneOut}
+use Rattle.runs.specs.Events.{settle, rebound, recost, take_out, hand_back, settled, Event, is_granted, Granted, GrantedCall, SomeSince, LastAnswered, Rebounds, Recosts}
 use Rattle.runs.specs.Steps.{Step, Steps}
 use Rattle.runs.specs.Runs.{SameEnds, BoundsAre, CostIs, CameToAnEnd, Run, Lawful, StepsMakeARun}
 use Rattle.runs.proofs.Since.{since_new, since_old, since_cases, since_none}
 use Rattle.runs.proofs.Ends.{ends_refl, ends_trans, ends_long}
-use Rattle.runs.proofs.Lines.{Once}
 use Rattle.runs.proofs.Locks.{some_out, nowhere_out}
 use Rattle.runs.proofs.Effects.{Effect, OnceEach, arc_beneath}
 use Rattle.runs.proofs.Ways.{Way, way_refused, way_settled, way_changed, way_taken_up, SettlePasses, way_of, idle, effect_of, needs_of, meets_of, all_ends}

@@ -1,19 +1,19 @@
 -- The four ways of a step: refused, settled, a change of the network, or a flow taken up.
-use Rattle.std.proofs.Common.{◌≡◌, ℕ, zero, suc, ◌≤◌, Bool, true, false, cond, ◌&&◌, eqb, List, [], ◌∷◌, length, ℤ, Some, None, Option, sym, refl, ap, ◌∙◌, subst, arith}
+use Rattle.std.proofs.Common.{◌≡◌, ℕ, suc, Bool, true, false, cond, ◌&&◌, eqb, List, [], ◌∷◌, length, ℤ, Some, None, Option, sym, refl, ap, ◌∙◌, subst, arith}
 use Rattle.std.specs.List.{AllByRecursion as All}
 use Rattle.costs.specs.Kinds.{Kind}
 use Rattle.networks.specs.declared.network.Arc.{Arc}
 use Rattle.networks.specs.Answers.{Told}
 use Rattle.networks.specs.Nets.{Net, shown}
 use Rattle.networks.proofs.Shown.{length_shown}
-use Rattle.flows.specs.Flows.{Ends, Meets, imbalance}
+use Rattle.flows.specs.Flows.{Ends, Meets}
 use Rattle.flows.specs.Fits.{Fitting}
 use Rattle.flows.specs.Stops.{stop_unless, or_else, counts_fit, lengths_fit, arcs_stop, needs_stop, first_stop, take_up_stop}
 use Rattle.flows.specs.Settles.{Tables, Answered, least, paused, none, Answers, Settles}
 use Rattle.flows.proofs.Fitted.{Passed, no_stop}
 use Rattle.flows.proofs.Lapping.{laps_meet}
 use Rattle.runs.specs.States.{State, with_flow}
-use Rattle.runs.specs.Events.{Asked, settle, rebound, recost, take_out, hand_back, take_up, Came, settled, done, refused, Event, is_granted, Granted, GrantedCall, Rebounds, Recosts}
+use Rattle.runs.specs.Events.{Asked, settle, rebound, recost, take_out, hand_back, take_up, settled, done, refused, Event, is_granted, Granted}
 use Rattle.runs.specs.Steps.{stop_of, Grants, Step}
 use Rattle.runs.proofs.Ends.{imbalance_same}
 use Rattle.runs.proofs.Effects.{Effect, NotOf, no_effect, rebound_effect, recost_effect, take_out_effect, hand_back_effect}

@@ -1,5 +1,5 @@
 -- Events: a call on a plan with its outcome.
-use Rattle.std.specs.Prelude.{◌≡◌, ℕ, Bool, true, false, ◌⊎◌, List, [], ◌∷◌, ◌++◌, take, drop, ℤ}
+use Rattle.std.specs.Prelude.{◌≡◌, ℕ, Bool, true, false, List, [], ◌∷◌, ◌++◌, take, drop, ℤ}
 use Rattle.std.specs.List.{AllByRecursion as All}
 use Rattle.networks.specs.Answers.{Told}
 use Rattle.networks.specs.Stops.{told}

@@ -1,5 +1,5 @@
 -- The law over runs: what holds after any list of calls on a new plan, by the calls and their outcomes alone.
-use Rattle.std.specs.Prelude.{◌≡◌, ℕ, ◌≤◌, Bool, true, false, ◌⊎◌, ◌↔◌, List, [], ◌∷◌, ◌++◌, length, ℤ, pos, Some}
+use Rattle.std.specs.Prelude.{◌≡◌, ℕ, ◌≤◌, true, false, ◌⊎◌, ◌↔◌, List, [], ◌∷◌, ◌++◌, length, ℤ, pos, Some}
 use Rattle.std.specs.List.{AllByRecursion as All}
 use Rattle.costs.specs.Kinds.{Kind, sums}
 use Rattle.networks.specs.declared.network.Arc.{Arc}
@@ -7,10 +7,10 @@ use Rattle.networks.specs.Nets.{arc_at, shown}
 use Rattle.flows.specs.Flows.{imbalance, total, EachArc, Within, Meets, SameImbalances, Least}
 use Rattle.flows.specs.Kilter.{lap_limit}
 use Rattle.flows.specs.Cuts.{MarksCut}
-use Rattle.flows.specs.Settles.{Answered, least, none}
+use Rattle.flows.specs.Settles.{least, none}
 use Rattle.runs.specs.States.{State, New, out_in, NoneOut}
 use Rattle.runs.specs.Events.{settle, rebound, recost, take_out, hand_back, Came, settled, Event, GrantedCall, SomeSince, LastAnswered, Rebounds, Recosts}
-use Rattle.runs.specs.Steps.{Step, Steps}
+use Rattle.runs.specs.Steps.{Steps}
 
 -- the same arcs between the same nodes, whatever their bounds and costs
 abbrev pub SameEnds : {C : Type 0} → List (Arc C) → List (Arc C) → Type 0

@@ -1,5 +1,5 @@
 -- The state of a plan: what its network means, and its tables.
-use Rattle.std.specs.Prelude.{◌≡◌, ℕ, Bool, true, false, List, length, ℤ, Some, None, Option}
+use Rattle.std.specs.Prelude.{◌≡◌, ℕ, Bool, false, List, length, ℤ, Some, None, Option}
 use Rattle.costs.specs.Kinds.{Kind}
 use Rattle.networks.specs.Answers.{Told}
 use Rattle.networks.specs.Nets.{Lock, Net, lock_at, out_at, shown}

@@ -1,5 +1,5 @@
 -- What one call on a plan does: when it is refused, and what it leaves.
-use Rattle.std.specs.Prelude.{◌≡◌, ℕ, List, [], ◌∷◌, length, ℤ, Some, None, Option}
+use Rattle.std.specs.Prelude.{◌≡◌, List, [], ◌∷◌, length, Some, None, Option}
 use Rattle.costs.specs.Kinds.{Kind}
 use Rattle.networks.specs.Answers.{Told}
 use Rattle.networks.specs.Nets.{shown, rebound_stop, rebounded, recost_stop, recosted, take_out_stop, taken, hand_back_stop, handed_back}

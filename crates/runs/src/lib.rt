@@ -6,6 +6,7 @@
 // meaning and every cost kind. `Call` and `Outcome` are what a list of calls holds.
 //
 // Not promised here: that calls take such steps. The crate `plans` has the calls.
+#![tactic(auto)]
 
 ghost use Rattle.runs.specs.Runs.{StepsMakeARun};
 

@@ -1,4 +1,5 @@
 // What tests of runs share: a run over small tables, and questions about its outcomes. Only tests use it.
+#![tactic(auto)]
 
 use costs::Plain;
 use makes::Row;

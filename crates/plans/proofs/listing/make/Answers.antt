@@ -1,10 +1,9 @@
-use Rattle.std.proofs.Common.{◌≡◌, Bool, false, take, drop, Some, None, sym, refl, ap, ◌∙◌, subst}
-use Rattle.networks.specs.Answers.{answer}
+use Rattle.std.proofs.Common.{Some, sym, refl, subst}
 use Rattle.networks.specs.Nets.{has, take_out_stop, taken, hand_back_stop, handed_back}
 use Rattle.networks.specs.Rings.{keeps, with_tag, without_tag}
 use Rattle.runs.specs.States.{state}
-use Rattle.runs.specs.Events.{settle, rebound, recost, take_out, hand_back, take_up, event, asked}
-use Rattle.plans.specs.Keeping.{settle_came, done_came, Keeps}
+use Rattle.runs.specs.Events.{rebound, recost, take_out, hand_back, asked}
+use Rattle.plans.specs.Keeping.{done_came}
 use Rattle.plans.specs.Lists.{Makes}
 use Rattle.plans.proofs.Stepping.{ring_take_out_keeps, ring_hand_back_keeps}
 use Rattle.plans.proofs.Making.{plain_makes, ring_makes}

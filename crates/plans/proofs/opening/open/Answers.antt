@@ -1,4 +1,4 @@
-use Rattle.std.proofs.Common.{◌≡◌, length, Some, None, sym, ◌∙◌, arith}
+use Rattle.std.proofs.Common.{length, sym, arith}
 use Rattle.networks.specs.Stops.{told}
 use Rattle.runs.specs.States.{state}
 use Rattle.plans.proofs.Opened.{opens, open_leaves, open_new, open_refused, due_answer, never_ok}

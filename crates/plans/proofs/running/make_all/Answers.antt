@@ -1,4 +1,4 @@
-use Rattle.std.proofs.Common.{◌≡◌, ◌+◌, ◌<◌, ◌≤◌, length, sym, ap, ◌∙◌, subst, arith}
+use Rattle.std.proofs.Common.{◌≡◌, ◌+◌, length, sym, subst, arith}
 use Rattle.runs.specs.States.{state}
 use Rattle.plans.proofs.Making.{Done, done_start, done_more, done_short, done_full, done_whole}
 use Rattle.plans.proofs.running.make_all.Goals as goal

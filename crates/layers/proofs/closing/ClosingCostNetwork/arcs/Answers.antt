@@ -1,4 +1,4 @@
-use Rattle.std.proofs.Common.{◌∙◌, arith}
+use Rattle.std.proofs.Common.{arith}
 use Rattle.layers.specs.Closings.{entries_of}
 use Rattle.layers.proofs.Closed.{passed, arcs_are}
 use Rattle.layers.proofs.closing.ClosingCostNetwork.arcs.Goals as goal
