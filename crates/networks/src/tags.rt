@@ -7,9 +7,9 @@ pub struct Tag {
 }
 
 impl Drop for Tag {
-    // No live tag meets this, so that none is forgotten.
+    // A tag that a lock-out gave names an arc, and there is no arc 0: so none is forgotten.
     fn drop(self)
-        requires { ⊥ }
+        requires { self.arc ≡ 0 }
     {
         let Tag { arc: _ } = self;
     }

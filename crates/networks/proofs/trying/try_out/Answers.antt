@@ -20,7 +20,7 @@ refused g c =
     never_refused (g.N.Network.meaning c.args.net.now) (g.N.Network.meaning c.take_out.new.self) c.args.layer c.args.a c.in_ok-tag.tag h.answers h.leaves c.in-Err.stop c.in-Err._kept c.in-Err.ensures.answers
 
 pub drop-kept-requires : goal.drop-kept-requires
-drop-kept-requires g c = refused g (goal.at.drop-kept-requires g c).In-Err
+drop-kept-requires g c = absurd (refused g (goal.at.drop-kept-requires g c).In-Err)
 
 pub returns-in-Err : goal.returns-in-Err
 returns-in-Err g c = absurd (refused g (goal.at.returns-in-Err g c).In-Err)
