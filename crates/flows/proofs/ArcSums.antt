@@ -1,7 +1,7 @@
 -- Sums over arcs and over nodes, in any commutative monoid.
 use Rattle.std.proofs.Common.{◌≡◌, ℕ, zero, suc, ◌+◌, ◌<◌, ◌≤◌, cond, eqb, ◌⊎◌, List, [], ◌∷◌, length, get_or, take, set, ℤ, pos, ◌+ℤ◌, sym, refl, ap, ◌∙◌, subst, ap₂, subst₂, inl, inr, add_assoc, add_comm, suc-add, zero-add, arith}
 use lib.IntN.{+ℤ_assoc, +ℤ_comm, +ℤ_idl}
-use Rattle.std.specs.List.{AllByRecursion as All}
+use Rattle.std.specs.List.{AllByRecursion}
 use Rattle.std.proofs.ByRecursion.{All-get_or}
 use Rattle.std.proofs.lemmas.List.{get_or_default}
 use Rattle.std.proofs.lemmas.Bool.{eq-eqb, ne_eqb, cases_eq}
@@ -19,10 +19,10 @@ at_place [] i h = absurd (omega arith)
 at_place (y ∷ ys) zero h = (y, (h, refl))
 at_place (y ∷ ys) (suc i) h = let r = at_place ys i (omega arith) in (r.0, (h, r.1.1))
 
-pub all_at : {X : Type 0} (P : X → Type 0) (xs : List X) (i : ℕ) (x : X) → All P xs → IsAt xs i x → P x
+pub all_at : {X : Type 0} (P : X → Type 0) (xs : List X) (i : ℕ) (x : X) → AllByRecursion P xs → IsAt xs i x → P x
 all_at P xs i x h (l, e) = subst P (sym e) (All-get_or P xs i x l h)
 
-pub all_from : {X : Type 0} (P : X → Type 0) (xs : List X) → ((i : ℕ) (x : X) → IsAt xs i x → P x) → All P xs
+pub all_from : {X : Type 0} (P : X → Type 0) (xs : List X) → ((i : ℕ) (x : X) → IsAt xs i x → P x) → AllByRecursion P xs
 all_from P [] h = tt
 all_from P (x ∷ xs) h = (h 0 x (omega arith, refl), all_from P xs (λ i y at. h (suc i) y (omega (arith, at.0), at.1)))
 
@@ -161,7 +161,7 @@ module _ {M : Type 0} {none : M} {plus : M → M → M} (monoid : Monoid none pl
             ∙ ap (λ y. plus y (act x (p j))) (act-zero (p k)) ∙ monoid.left (act x (p j))
 
     -- what each node's arcs carry, for what the node has, is what each arc carries, for what its end has
-    pub gathered : {C : Type 0} (end : Arc C → ℕ) (N : ℕ) (arcs : List (Arc C)) (fs : List ℤ) → All (λ a. (1 ≤ end a) × (end a ≤ N)) arcs →
+    pub gathered : {C : Type 0} (end : Arc C → ℕ) (N : ℕ) (arcs : List (Arc C)) (fs : List ℤ) → AllByRecursion (λ a. (1 ≤ end a) × (end a ≤ N)) arcs →
         worth none plus act 1 N p (λ m. sum_arcs (λ a f. at_one (end a) f m) arcs fs) ≡ over none plus (λ a f. act f (p (end a))) arcs fs
     gathered end N [] fs h = worth_none 1 N
     gathered end N (a ∷ rest) [] h = worth_none 1 N

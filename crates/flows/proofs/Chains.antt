@@ -1,7 +1,7 @@
 -- Chains that meet no node twice go over no arc twice; the order of the steps does not matter to the flow.
 use Rattle.std.proofs.Common.{◌≡◌, ℕ, zero, suc, Bool, true, false, cond, ◌⊎◌, List, [], ◌∷◌, map, get_or, set, ℤ, pos, ◌+ℤ◌, neg_ℤ, sym, refl, ap, ◌∙◌, subst, inl, inr, arith}
 use borrow.Author.Differences.{ints}
-use Rattle.std.specs.List.{AllByRecursion as All}
+use Rattle.std.specs.List.{AllByRecursion}
 use Rattle.networks.specs.declared.network.Arc.{Arc}
 use Rattle.flows.specs.declared.steps.Step.{Step}
 use Rattle.networks.specs.Nets.{IsAt}
@@ -42,7 +42,7 @@ module _ {C : Type 0} (arcs : List (Arc C)) where
       go false true p q u v = inr (sym q ∙ u, sym v ∙ p)
       go false false p q u v = inl (sym p ∙ u)
 
-  far_apart : (s : Step) (m : ℕ) → Leads arcs s m → (rest : List Step) (end : ℕ) → Chain arcs rest end → All (λ n. ¬ (s.node ≡ n)) (map (λ t. t.node) rest) → All (λ n. ¬ (m ≡ n)) (map (λ t. t.node) rest) → All (λ j. ¬ (s.arc ≡ j)) (map (λ t. t.arc) rest)
+  far_apart : (s : Step) (m : ℕ) → Leads arcs s m → (rest : List Step) (end : ℕ) → Chain arcs rest end → AllByRecursion (λ n. ¬ (s.node ≡ n)) (map (λ t. t.node) rest) → AllByRecursion (λ n. ¬ (m ≡ n)) (map (λ t. t.node) rest) → AllByRecursion (λ j. ¬ (s.arc ≡ j)) (map (λ t. t.arc) rest)
   far_apart s m lead [] end c p q = tt
   far_apart s m lead (t ∷ rest) end (c, cs) (p, ps) (q, qs) = ((λ e. go (one_arc s t m (first rest end) lead c e)), far_apart s m lead rest end cs ps qs)
     where
@@ -51,7 +51,7 @@ module _ {C : Type 0} (arcs : List (Arc C)) where
       go (inr (e, _)) = q e
 
   next_apart : (s : Step) (rest : List Step) (end : ℕ) → Leads arcs s (first rest end) → Chain arcs rest end → Apart (map (λ t. t.node) (s ∷ rest)) →
-      ((t : Step) → rest ≡ t ∷ [] → ¬ ((s.arc ≡ t.arc) × (end ≡ s.node))) → All (λ j. ¬ (s.arc ≡ j)) (map (λ t. t.arc) rest)
+      ((t : Step) → rest ≡ t ∷ [] → ¬ ((s.arc ≡ t.arc) × (end ≡ s.node))) → AllByRecursion (λ j. ¬ (s.arc ≡ j)) (map (λ t. t.arc) rest)
   next_apart s [] end lead c ap' two = tt
   next_apart s (t ∷ []) end lead (c, cs) ((p, ps), (q, qs)) two = ((λ e. go e (one_arc s t t.node end lead c e)), tt)
     where
@@ -65,7 +65,7 @@ module _ {C : Type 0} (arcs : List (Arc C)) where
       go (inr (_, n)) = pr (sym n)
 
   -- a chain that meets no node twice and does not come back goes over no arc twice
-  open_apart : (steps : List Step) (end : ℕ) → Chain arcs steps end → Apart (map (λ t. t.node) steps) → All (λ n. ¬ (end ≡ n)) (map (λ t. t.node) steps) → Apart (map (λ t. t.arc) steps)
+  open_apart : (steps : List Step) (end : ℕ) → Chain arcs steps end → Apart (map (λ t. t.node) steps) → AllByRecursion (λ n. ¬ (end ≡ n)) (map (λ t. t.node) steps) → Apart (map (λ t. t.arc) steps)
   open_apart [] end c n h = tt
   open_apart (s ∷ rest) end (c, cs) (n, ns) (h, hs) = (next_apart s rest end c cs (n, ns) (λ t _ both. h both.1), open_apart rest end cs ns hs)
 

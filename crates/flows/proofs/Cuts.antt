@@ -1,7 +1,7 @@
 -- A cut shows that no flow within the bounds has the needs; and how a search comes to one.
 use Rattle.std.proofs.Common.{◌≡◌, ℕ, zero, suc, ◌+◌, ◌-◌, ◌<◌, ◌≤◌, Bool, true, false, cond, not, ◌&&◌, ◌⊎◌, List, [], ◌∷◌, length, get_or, ℤ, pos, ◌+ℤ◌, ◌-ℤ◌, ◌≤ℤ◌, ◌<ℤ◌, sym, refl, ap, ◌∙◌, subst, ap₂, subst₂, inl, inr, arith}
 use borrow.Author.Differences.{ints}
-use Rattle.std.specs.List.{AllByRecursion as All}
+use Rattle.std.specs.List.{AllByRecursion}
 use Rattle.std.proofs.ByRecursion.{All-weaker}
 use Rattle.networks.specs.declared.network.Arc.{Arc}
 use Rattle.flows.specs.Flows.{sum_arcs, leaving, entering, imbalance, EachArc, Within, Ends, Meets}
@@ -73,7 +73,7 @@ module _ {C : Type 0} (inside : ℕ → Bool) where
       crossing (inside a.from) (inside a.to) a.lo a.hi f (outs rest fs) (ins rest fs) (can_leave inside rest) (must_enter inside rest) l h (across rest fs ws)
 
   -- the needs inside, with what enters put back, are what leaves
-  needs_are : (arcs : List (Arc C)) (needs : List ℤ) → All (Ends (length needs)) arcs → (fs : List ℤ) → Meets arcs needs fs → needed_from 1 inside needs +ℤ ins arcs fs ≡ outs arcs fs
+  needs_are : (arcs : List (Arc C)) (needs : List ℤ) → AllByRecursion (Ends (length needs)) arcs → (fs : List ℤ) → Meets arcs needs fs → needed_from 1 inside needs +ℤ ins arcs fs ≡ outs arcs fs
   needs_are arcs needs ends fs meets =
       ap₂ ◌+ℤ◌ (sym (needed_is 1 inside needs (imbalance arcs fs) (λ n l h. meets n l (omega arith)))) (sym ins_are)
       ∙ sym (worth_add integers if_inside if_inside_zero if_inside_add inside 1 (length needs) (imbalance arcs fs) (λ n. sum_arcs (entering n) arcs fs))
@@ -114,7 +114,7 @@ module _ {C : Type 0} (inside : ℕ → Bool) where
       fuller (inside a.from) (inside a.to) a.lo a.hi f (outs rest fs) (ins rest fs) (can_leave inside rest) (must_enter inside rest) s (overfull rest fs n b ss (omega arith, e) t)
 
   -- nodes that nothing more can leave and nothing less can enter, with one arc strained, are a cut
-  pub cut_found : (arcs : List (Arc C)) (needs : List ℤ) (fs : List ℤ) (n : ℕ) (b : Arc C) → All (Ends (length needs)) arcs → Meets arcs needs fs →
+  pub cut_found : (arcs : List (Arc C)) (needs : List ℤ) (fs : List ℤ) (n : ℕ) (b : Arc C) → AllByRecursion (Ends (length needs)) arcs → Meets arcs needs fs →
       EachArc Stuck arcs fs → IsAt arcs n b → Strained b (get_or fs n (pos 0)) → Cut arcs needs inside
   cut_found arcs needs fs n b ends meets stuck at amiss =
       moved (needed_from 1 inside needs) (outs arcs fs) (ins arcs fs) (can_leave inside arcs -ℤ must_enter inside arcs) (needs_are arcs needs ends fs meets) (overfull arcs fs n b stuck at amiss)
@@ -135,13 +135,13 @@ needs_same p q N same k (x ∷ needs) l h = ap₂ (λ b r. cond b x (pos 0) +ℤ
 
 -- a cut is one by every test that agrees on the nodes
 module _ {C : Type 0} (p q : ℕ → Bool) (N : ℕ) (same : (n : ℕ) → 1 ≤ n → n ≤ N → p n ≡ q n) where
-  leave_same : (arcs : List (Arc C)) → All (Ends N) arcs → can_leave p arcs ≡ can_leave q arcs
+  leave_same : (arcs : List (Arc C)) → AllByRecursion (Ends N) arcs → can_leave p arcs ≡ can_leave q arcs
   leave_same [] e = refl
   leave_same (a ∷ rest) ((k, l, m, n), es) = ap₂ ◌+ℤ◌ (ap₂ (λ x y. cond (x && not y) a.hi (pos 0)) (same a.from k l) (same a.to m n)) (leave_same rest es)
 
-  enter_same : (arcs : List (Arc C)) → All (Ends N) arcs → must_enter p arcs ≡ must_enter q arcs
+  enter_same : (arcs : List (Arc C)) → AllByRecursion (Ends N) arcs → must_enter p arcs ≡ must_enter q arcs
   enter_same [] e = refl
   enter_same (a ∷ rest) ((k, l, m, n), es) = ap₂ ◌+ℤ◌ (ap₂ (λ x y. cond (y && not x) a.lo (pos 0)) (same a.from k l) (same a.to m n)) (enter_same rest es)
 
-  pub cut_same : (arcs : List (Arc C)) (needs : List ℤ) → length needs ≡ N → All (Ends N) arcs → Cut arcs needs p → Cut arcs needs q
+  pub cut_same : (arcs : List (Arc C)) (needs : List ℤ) → length needs ≡ N → AllByRecursion (Ends N) arcs → Cut arcs needs p → Cut arcs needs q
   cut_same arcs needs l ends cut = subst₂ (λ x y. x <ℤ y) (ap₂ ◌-ℤ◌ (leave_same arcs ends) (enter_same arcs ends)) (needs_same p q N same 1 needs (omega arith) (omega arith)) cut

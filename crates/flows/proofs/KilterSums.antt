@@ -1,6 +1,6 @@
 -- The kilter numbers of all arcs, added up: their limit, and when they come to zero.
 use Rattle.std.proofs.Common.{◌≡◌, ◌*◌, ◌≤◌, List, [], ◌∷◌, length, ℤ, ◌≤ℤ◌, refl, arith}
-use Rattle.std.specs.List.{AllByRecursion as All}
+use Rattle.std.specs.List.{AllByRecursion}
 use Rattle.costs.specs.Kinds.{Kind, Laws}
 use Rattle.networks.specs.Limits.{flow_limit}
 use Rattle.networks.specs.declared.network.Arc.{Arc}
@@ -18,7 +18,7 @@ module _ {C : Type 0} (K : Kind C) where
       omega arith
 
   module _ (laws : Laws K) where
-    pub zero_sum : (ps : List C) (arcs : List (Arc C)) (fs : List ℤ) → All (λ a. a.lo ≤ℤ a.hi) arcs → length fs ≡ length arcs → kilter_sum K ps arcs fs ≡ 0 → EachArc (InKilter K ps) arcs fs
+    pub zero_sum : (ps : List C) (arcs : List (Arc C)) (fs : List ℤ) → AllByRecursion (λ a. a.lo ≤ℤ a.hi) arcs → length fs ≡ length arcs → kilter_sum K ps arcs fs ≡ 0 → EachArc (InKilter K ps) arcs fs
     zero_sum ps [] [] h l e = tt
     zero_sum ps [] (f ∷ fs) h l e = absurd (omega arith)
     zero_sum ps (a ∷ rest) [] h l e = absurd (omega arith)

@@ -1,7 +1,7 @@
 -- A flow with no arc out of kilter is a least one.
 use Rattle.std.proofs.Common.{◌≡◌, ℕ, ◌≤◌, Bool, true, false, List, [], ◌∷◌, ℤ, ◌+ℤ◌, ◌-ℤ◌, ◌≤ℤ◌, sym, refl, ap, ◌∙◌, subst₂, arith}
 use borrow.Author.Differences.{ints}
-use Rattle.std.specs.List.{AllByRecursion as All}
+use Rattle.std.specs.List.{AllByRecursion}
 use Rattle.std.proofs.ByRecursion.{All-weaker}
 use Rattle.std.proofs.lemmas.Int.{by_lt_z}
 use Rattle.costs.specs.Kinds.{Kind, Laws, sums}
@@ -40,7 +40,7 @@ module _ {C : Type 0} (K : Kind C) (laws : Laws K) where
   all_least ps (a ∷ rest) (f ∷ fs) (g ∷ gs) (h, hs) (w, ws) =
       add_le K laws (K.times f (reduced K ps a)) (K.times g (reduced K ps a)) (reduced_total ps rest fs) (reduced_total ps rest gs) (arc_least ps a f g h w) (all_least ps rest fs gs hs ws)
 
-  module _ (N : ℕ) (ps : List C) (arcs : List (Arc C)) (ends : All (Ends N) arcs) where
+  module _ (N : ℕ) (ps : List C) (arcs : List (Arc C)) (ends : AllByRecursion (Ends N) arcs) where
     -- what leaves the nodes, and what enters them, at the nodes' prices
     out_of : List ℤ → C
     out_of fs = worth K.zero K.plus K.times 1 N (price K ps) (λ n. sum_arcs (leaving n) arcs fs)

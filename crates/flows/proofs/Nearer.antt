@@ -1,6 +1,6 @@
 -- A rise of prices that comes before every other turns no sign; where it leads the price of a node.
 use Rattle.std.proofs.Common.{◌≡◌, ℕ, ◌≤◌, Bool, true, false, cond, ◌&&◌, ◌||◌, List, [], ◌∷◌, sym, refl, ap, ◌∙◌, subst₂, arith}
-use Rattle.std.specs.List.{AllByRecursion as All}
+use Rattle.std.specs.List.{AllByRecursion}
 use Rattle.std.proofs.ByRecursion.{All-weaker}
 use Rattle.costs.specs.Kinds.{Kind, Laws, minus}
 use Rattle.networks.specs.declared.network.Arc.{Arc}
@@ -96,10 +96,10 @@ module _ {C : Type 0} (K : Kind C) (laws : Laws K) where
           ∙ sym (gone (K.plus t r) c) ∙ sym (swap K laws t (K.neg c) r c) ∙ ap (K.plus (minus K t c)) (comm K laws r c))
 
 -- no cost has a size above the largest
-pub none_larger : {C : Type 0} (K : Kind C) (arcs : List (Arc C)) → All (λ a. K.size a.cost ≤ largest K arcs) arcs
+pub none_larger : {C : Type 0} (K : Kind C) (arcs : List (Arc C)) → AllByRecursion (λ a. K.size a.cost ≤ largest K arcs) arcs
 none_larger K [] = tt
 none_larger K (a ∷ rest) = (omega arith, All-weaker (λ b. K.size b.cost ≤ largest K rest) (λ b. K.size b.cost ≤ largest K (a ∷ rest)) (λ b h. omega arith) rest (none_larger K rest))
 
-pub largest_most : {C : Type 0} (K : Kind C) (b : ℕ) (arcs : List (Arc C)) → All (λ a. K.size a.cost ≤ b) arcs → largest K arcs ≤ b
+pub largest_most : {C : Type 0} (K : Kind C) (b : ℕ) (arcs : List (Arc C)) → AllByRecursion (λ a. K.size a.cost ≤ b) arcs → largest K arcs ≤ b
 largest_most K b [] h = omega arith
 largest_most K b (a ∷ rest) (h, hs) = omega (arith, h, largest_most K b rest hs)

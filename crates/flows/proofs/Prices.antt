@@ -1,6 +1,6 @@
 -- Changes of prices that raise no kilter number: raised prices at the nodes that are not inside, and signs kept.
 use Rattle.std.proofs.Common.{◌≡◌, ℕ, ◌+◌, ◌≤◌, Bool, true, false, cond, List, [], ◌∷◌, ℤ, ◌≤ℤ◌, ◌<ℤ◌, sym, refl, ap, ◌∙◌, subst, ap₂, subst₂, arith}
-use Rattle.std.specs.List.{AllByRecursion as All}
+use Rattle.std.specs.List.{AllByRecursion}
 use Rattle.costs.specs.Kinds.{Kind, Laws, minus}
 use Rattle.networks.specs.declared.network.Arc.{Arc}
 use Rattle.flows.specs.Flows.{EachArc, Ends}
@@ -89,7 +89,7 @@ module _ {C : Type 0} (K : Kind C) (laws : Laws K) where
           (λ p q r h. fallen a f (reduced K ps a) r h allows.fits (allows.leaves p q).0 (allows.leaves p q).1)
           (λ p q. risen a f (reduced K ps a) allows.fits (allows.enters p q).0 (allows.enters p q).1)
 
-      pub all_repriced : (arcs : List (Arc C)) (fs : List ℤ) → All (Ends N) arcs → EachArc (Allows K e inside ps) arcs fs →
+      pub all_repriced : (arcs : List (Arc C)) (fs : List ℤ) → AllByRecursion (Ends N) arcs → EachArc (Allows K e inside ps) arcs fs →
           EachArc (λ a f. kilter_number K (reduced K qs a) a f ≤ kilter_number K (reduced K ps a) a f) arcs fs
       all_repriced [] [] n r = tt
       all_repriced [] (f ∷ fs) n r = absurd r

@@ -1,7 +1,7 @@
 -- A lap whose steps have room, the first over an arc out of kilter that way, leads to a better flow, nearer to kilter.
 use Rattle.std.proofs.Common.{◌≡◌, ℕ, ◌+◌, ◌<◌, ◌≤◌, Bool, true, false, cond, not, ◌⊎◌, List, [], ◌∷◌, map, length, get_or, set, ℤ, pos, negsuc, ◌+ℤ◌, neg_ℤ, nat_abs, ◌≤ℤ◌, ◌<ℤ◌, sym, refl, ap, ◌∙◌, subst, ap₂, subst₂, inl, inr, ⊎_elim, arith, length-set}
 use borrow.Author.Differences.{ints}
-use Rattle.std.specs.List.{AllByRecursion as All}
+use Rattle.std.specs.List.{AllByRecursion}
 use Rattle.std.proofs.lemmas.List.{get_or-set_same, get_or-set_other}
 use Rattle.std.proofs.lemmas.Bool.{cases_eq}
 use Rattle.costs.specs.Kinds.{Kind, Laws, sums, minus}
@@ -49,18 +49,18 @@ room_limited K ps a false f g r (l, h, k) = go (K.le K.zero (reduced K ps a)) (r
     go false q = let m = (r.if_against refl).0 in omega (arith, ints)
 
 module _ {C : Type 0} (K : Kind C) (ps : List C) (arcs : List (Arc C)) where
-  kept_room : (x : ℤ) (fs : List ℤ) (i : ℕ) (y : ℤ) (steps : List Step) → All (λ j. ¬ (i ≡ j)) (map (λ s. s.arc) steps) → All (HasRoom K ps arcs x fs) steps → All (HasRoom K ps arcs x (set fs i y)) steps
+  kept_room : (x : ℤ) (fs : List ℤ) (i : ℕ) (y : ℤ) (steps : List Step) → AllByRecursion (λ j. ¬ (i ≡ j)) (map (λ s. s.arc) steps) → AllByRecursion (HasRoom K ps arcs x fs) steps → AllByRecursion (HasRoom K ps arcs x (set fs i y)) steps
   kept_room x fs i y [] n h = tt
   kept_room x fs i y (s ∷ rest) (n, ns) (h, hs) =
       (λ a at. subst (λ z. Room K ps a s.along z (z +ℤ cond s.along x (neg_ℤ x))) (sym (get_or-set_other fs i s.arc y (pos 0) (λ q. n (sym q)))) (h a at), kept_room x fs i y rest ns hs)
 
   -- steps over different arcs, each with room at the start, have room in their turn
-  pub roomy_from_start : (x : ℤ) (steps : List Step) (fs : List ℤ) → Apart (map (λ s. s.arc) steps) → All (HasRoom K ps arcs x fs) steps → Roomy K ps arcs x steps fs
+  pub roomy_from_start : (x : ℤ) (steps : List Step) (fs : List ℤ) → Apart (map (λ s. s.arc) steps) → AllByRecursion (HasRoom K ps arcs x fs) steps → Roomy K ps arcs x steps fs
   roomy_from_start x [] fs n h = tt
   roomy_from_start x (s ∷ rest) fs (n, ns) (h, hs) = (h, roomy_from_start x rest (set fs s.arc (moved x s fs)) ns (kept_room x fs s.arc (moved x s fs) rest n hs))
 
   -- flows stay within the limits
-  pub sent_limited : (x : ℤ) (steps : List Step) (fs : List ℤ) → All (λ s. s.arc < length arcs) steps → EachArc Limited arcs fs → Roomy K ps arcs x steps fs → EachArc Limited arcs (sent x steps fs)
+  pub sent_limited : (x : ℤ) (steps : List Step) (fs : List ℤ) → AllByRecursion (λ s. s.arc < length arcs) steps → EachArc Limited arcs fs → Roomy K ps arcs x steps fs → EachArc Limited arcs (sent x steps fs)
   sent_limited x [] fs is h r = h
   sent_limited x (s ∷ rest) fs (i, is) h (r, rs) =
       let at = at_place arcs s.arc i in

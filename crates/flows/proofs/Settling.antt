@@ -1,7 +1,7 @@
 -- What the answers of a search come to, in words: least is least, none is none, and paused had a lap at hand.
 use Rattle.std.proofs.Common.{◌≡◌, ℕ, ◌≤◌, Bool, true, false, not, List, [], ◌∷◌, length, ℤ, ◌≤ℤ◌, sym, refl, ap, ◌∙◌, subst, inl, inr, arith}
 use borrow.Author.Differences.{ints}
-use Rattle.std.specs.List.{AllByRecursion as All}
+use Rattle.std.specs.List.{AllByRecursion}
 use Rattle.costs.specs.Kinds.{Kind, Laws, sums}
 use Rattle.networks.specs.declared.network.Arc.{Arc}
 use Rattle.networks.specs.Nets.{Net, shown}
@@ -61,25 +61,25 @@ module _ {C : Type 0} (K : Kind C) where
           (smallest g (excess_within arcs g (lap_long arcs f g lap ∙ l) (same ∙ no_excess)) (λ n _ _. sym (lap_keeps arcs f g l lap n))) cheaper
 
   -- answered least: within the bounds, and least
-  pub left_is_least : Laws K → (N : ℕ) (arcs : List (Arc C)) (budget : ℕ) (found : Tables C) (cost : C) (laps : ℕ) (left : Tables C) → All (Ends N) arcs → LeastLeft K arcs budget found cost laps left →
+  pub left_is_least : Laws K → (N : ℕ) (arcs : List (Arc C)) (budget : ℕ) (found : Tables C) (cost : C) (laps : ℕ) (left : Tables C) → AllByRecursion (Ends N) arcs → LeastLeft K arcs budget found cost laps left →
       EachArc Within arcs left.flow × Least K N arcs left.flow
   left_is_least laws N arcs budget found cost laps left ends r =
       (kilter_within K laws left.prices arcs left.flow r.kilter, kilter_is_least K laws N arcs left.flow left.prices ends r.kilter)
 
 -- answered none: no flow within the bounds has the needs
-pub left_is_none : {C : Type 0} (arcs : List (Arc C)) (found left : Tables C) → All (Ends (length found.needs)) arcs → NoneLeft arcs found left →
+pub left_is_none : {C : Type 0} (arcs : List (Arc C)) (found left : Tables C) → AllByRecursion (Ends (length found.needs)) arcs → NoneLeft arcs found left →
     (flow : List ℤ) → EachArc Within arcs flow → Meets arcs found.needs flow → ⊥
 left_is_none {C} arcs found left ends r = cut_shows_none C arcs found.needs (marked left.marks) ends r.cut.cut
 
 -- what was settled where no stop came, in words
 module _ {C : Type 0} (K : Kind C) (laws : Laws K) (n : Net C) (budget : ℕ) (found : Tables C) (p : Passed K n found.flow found.needs (length found.prices) (length found.marks)) (left : Tables C) where
-  all_ends : All (Ends n.nodes) (shown n)
+  all_ends : AllByRecursion (Ends n.nodes) (shown n)
   all_ends = all_from (Ends n.nodes) (shown n) (λ i a is. (p.fits i a is).ends)
 
   says : (answer : Answered C) → Answers K n.nodes (shown n) budget found answer left → Says K n.nodes (shown n) found answer left
   says (least cost laps) r = left_is_least K laws n.nodes (shown n) budget found cost laps left all_ends r
   says (paused laps) r = tt
-  says none r = left_is_none (shown n) found left (subst (λ z. All (Ends z) (shown n)) (sym p.needs_long) all_ends) r
+  says none r = left_is_none (shown n) found left (subst (λ z. AllByRecursion (Ends z) (shown n)) (sym p.needs_long) all_ends) r
 
   long : length found.flow ≡ length (shown n)
   long = p.flow_long ∙ sym (length_shown n)

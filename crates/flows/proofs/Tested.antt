@@ -2,7 +2,7 @@
 use Rattle.std.proofs.Common.{◌≡◌, ℕ, zero, suc, ◌+◌, ◌-◌, ◌<◌, ◌≤◌, Bool, true, false, not, ◌&&◌, leb, List, [], ◌∷◌, length, get_or, ℤ, pos, ◌-ℤ◌, ◌<ℤ◌, sym, refl, ap, ◌∙◌, subst, ⊎_elim, arith}
 use lib.Signed.{le_z, lt_z}
 use borrow.Author.Differences.{ints}
-use Rattle.std.specs.List.{AllByRecursion as All}
+use Rattle.std.specs.List.{AllByRecursion}
 use Rattle.std.proofs.lemmas.Bool.{and_parts, not-true, leb-true, cases_eq}
 use Rattle.costs.specs.Kinds.{Kind, Laws, sums}
 use Rattle.networks.specs.declared.network.Arc.{Arc}
@@ -22,7 +22,7 @@ abbrev all : {X : Type 0} → (X → Bool) → List X → Bool
 all t [] = true
 all t (x ∷ xs) = t x && all t xs
 
-all_pass : {X : Type 0} (t : X → Bool) (P : X → Type 0) → ((x : X) → t x ≡ true → P x) → (xs : List X) → all t xs ≡ true → All P xs
+all_pass : {X : Type 0} (t : X → Bool) (P : X → Type 0) → ((x : X) → t x ≡ true → P x) → (xs : List X) → all t xs ≡ true → AllByRecursion P xs
 all_pass t P h [] e = tt
 all_pass t P h (x ∷ xs) e = let p = and_parts (t x) (all t xs) e in (h x p.0, all_pass t P h xs p.1)
 
@@ -76,7 +76,7 @@ module _ {C : Type 0} where
   cut_is_right : (N : ℕ) (arcs : List (Arc C)) (opened : List ℤ) (marks : List ℕ) → cut_passes N arcs opened marks ≡ true → RightCut N arcs opened marks
   cut_is_right N arcs opened marks e = record {
     cut = record { bits = all_pass (λ m. leb m 1) (λ m. m ≤ 1) (λ m h. leb-true m 1 h) marks q.0; cut = less };
-    is_none = λ flow within same. cut_shows_none C arcs needs (marked marks) (subst (λ n. All (Ends n) arcs) (sym (imbalances_long arcs opened 1 N)) (all_pass (ends_fit N) (Ends N) (ends_pass N) arcs p.0)) less flow within (imbalances_meet N arcs opened flow same);
+    is_none = λ flow within same. cut_shows_none C arcs needs (marked marks) (subst (λ n. AllByRecursion (Ends n) arcs) (sym (imbalances_long arcs opened 1 N)) (all_pass (ends_fit N) (Ends N) (ends_pass N) arcs p.0)) less flow within (imbalances_meet N arcs opened flow same);
   }
     where
       needs : List ℤ

@@ -1,6 +1,6 @@
 -- Cuts: nodes that need more than can leave them. A set of nodes is a test of their numbers.
 use Rattle.std.specs.Prelude.{ℕ, suc, ◌-◌, ◌≤◌, Bool, cond, not, ◌&&◌, List, [], ◌∷◌, length, ℤ, pos, ◌+ℤ◌, ◌-ℤ◌, ◌<ℤ◌, ◌==◌, slice_index}
-use Rattle.std.specs.List.{AllByRecursion as All}
+use Rattle.std.specs.List.{AllByRecursion}
 use Rattle.networks.specs.declared.network.Arc.{Arc}
 use Rattle.flows.specs.Flows.{EachArc, Within, Ends, Meets}
 
@@ -29,10 +29,10 @@ marked marks n = slice_index marks (n - 1) == 1
 
 -- every mark is 0 or 1, and the marked nodes are a cut
 pub record MarksCut {C : Type 0} (arcs : List (Arc C)) (needs : List ℤ) (marks : List ℕ) : Type 0 where
-  pub bits : All (λ m. m ≤ 1) marks
+  pub bits : AllByRecursion (λ m. m ≤ 1) marks
   pub cut : Cut arcs needs (marked marks)
 
 -- where there is a cut, no flow within the bounds has these needs
 abbrev pub CutShowsNone : Type 0 → Type 0
-CutShowsNone C = (arcs : List (Arc C)) (needs : List ℤ) (inside : ℕ → Bool) → All (Ends (length needs)) arcs → Cut arcs needs inside →
+CutShowsNone C = (arcs : List (Arc C)) (needs : List ℤ) (inside : ℕ → Bool) → AllByRecursion (Ends (length needs)) arcs → Cut arcs needs inside →
     (flow : List ℤ) → EachArc Within arcs flow → Meets arcs needs flow → ⊥

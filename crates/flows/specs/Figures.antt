@@ -1,6 +1,6 @@
 -- When a worked figure is right.
 use Rattle.std.specs.Prelude.{◌≡◌, ℕ, List, ℤ}
-use Rattle.std.specs.List.{AllByRecursion as All}
+use Rattle.std.specs.List.{AllByRecursion}
 use Rattle.costs.specs.Kinds.{Kind, sums}
 use Rattle.networks.specs.declared.network.Arc.{Arc}
 use Rattle.flows.specs.declared.figures.Figure.{Figure}
@@ -33,4 +33,4 @@ Right K x = RightVerdict K x.nodes x.arcs.now x.opened.now x.verdict
 
 -- every figure of a table is right
 pub record AllRight {C : Type 0} (K : Kind C) (figures : List (Figure C)) : Type 0 where
-  pub right : All (Right K) figures
+  pub right : AllByRecursion (Right K) figures

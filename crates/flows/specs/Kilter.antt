@@ -1,6 +1,6 @@
 -- Prices and kilter: when an arc is out of kilter, and by how much. Prices have node 1's first.
 use Rattle.std.specs.Prelude.{◌≡◌, ℕ, ◌+◌, ◌-◌, ◌*◌, ◌≤◌, max, Bool, true, false, cond, ◌&&◌, ◌||◌, List, [], ◌∷◌, length, ℤ, ◌-ℤ◌, ◌≤ℤ◌, Some, None, Option, int_lt, slice_index_or, unsigned_abs}
-use Rattle.std.specs.List.{AllByRecursion as All}
+use Rattle.std.specs.List.{AllByRecursion}
 use Rattle.costs.specs.Kinds.{Kind, minus, less}
 use Rattle.networks.specs.Limits.{flow_limit}
 use Rattle.networks.specs.declared.network.Arc.{Arc}
@@ -45,7 +45,7 @@ lap_limit A = 2 * flow_limit * A
 -- a flow with no arc out of kilter, at some prices, is a least one
 abbrev pub KilterIsLeast : {C : Type 0} → Kind C → Type 0
 KilterIsLeast {C} K = (N : ℕ) (arcs : List (Arc C)) (flow : List ℤ) (prices : List C) →
-    All (Ends N) arcs → EachArc (InKilter K prices) arcs flow → Least K N arcs flow
+    AllByRecursion (Ends N) arcs → EachArc (InKilter K prices) arcs flow → Least K N arcs flow
 
 -- the kilter numbers add up to at most the lap limit
 abbrev pub KilterSumIsLimited : {C : Type 0} → Kind C → Type 0
@@ -54,5 +54,5 @@ KilterSumIsLimited {C} K = (arcs : List (Arc C)) (flow : List ℤ) (prices : Lis
 
 -- they add up to zero exactly when no arc is out of kilter
 abbrev pub KilterSumTells : {C : Type 0} → Kind C → Type 0
-KilterSumTells {C} K = (arcs : List (Arc C)) (flow : List ℤ) (prices : List C) → All (λ a. a.lo ≤ℤ a.hi) arcs → length flow ≡ length arcs →
+KilterSumTells {C} K = (arcs : List (Arc C)) (flow : List ℤ) (prices : List C) → AllByRecursion (λ a. a.lo ≤ℤ a.hi) arcs → length flow ≡ length arcs →
     (kilter_sum K prices arcs flow ≡ 0 → EachArc (InKilter K prices) arcs flow) × (EachArc (InKilter K prices) arcs flow → kilter_sum K prices arcs flow ≡ 0)

@@ -1,6 +1,6 @@
 -- Laps: one amount sent around a closed chain of arcs.
 use Rattle.std.specs.Prelude.{◌≡◌, ℕ, zero, suc, ◌<◌, ◌≤◌, Bool, true, cond, ◌⊎◌, List, [], ◌∷◌, map, length, ℤ, pos, ◌+ℤ◌, neg_ℤ, slice_index_or, slice_set}
-use Rattle.std.specs.List.{AllByRecursion as All}
+use Rattle.std.specs.List.{AllByRecursion}
 use Rattle.costs.specs.Kinds.{Kind, sums, less}
 use Rattle.networks.specs.declared.network.Arc.{Arc}
 use Rattle.networks.specs.Nets.{IsAt}
@@ -31,7 +31,7 @@ Chain arcs (s ∷ rest) end = Leads arcs s (first rest end) × Chain arcs rest e
 -- no number stands twice
 abbrev pub Apart : List ℕ → Type 0
 Apart [] = Unit {0}
-Apart (n ∷ ns) = All (λ m. ¬ (n ≡ m)) ns × Apart ns
+Apart (n ∷ ns) = AllByRecursion (λ m. ¬ (n ≡ m)) ns × Apart ns
 
 -- the flow of a step's arc when it is run along by x, or against, which loses x
 abbrev pub moved : ℤ → Step → List ℤ → ℤ

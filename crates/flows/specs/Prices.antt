@@ -1,6 +1,6 @@
 -- Changes of prices.
 use Rattle.std.specs.Prelude.{◌≡◌, ℕ, ◌≤◌, Bool, true, cond, ◌&&◌, ◌||◌, List, length, ℤ, ◌≤ℤ◌}
-use Rattle.std.specs.List.{AllByRecursion as All}
+use Rattle.std.specs.List.{AllByRecursion}
 use Rattle.costs.specs.Kinds.{Kind}
 use Rattle.networks.specs.declared.network.Arc.{Arc}
 use Rattle.flows.specs.Flows.{EachArc}
@@ -17,7 +17,7 @@ pub record SignKept {C : Type 0} (K : Kind C) (c d : C) : Type 0 where
 
 -- no reduced cost turns its sign from the prices ps to qs
 abbrev pub SignsKept : {C : Type 0} → Kind C → List (Arc C) → List C → List C → Type 0
-SignsKept K arcs ps qs = All (λ a. SignKept K (reduced K ps a) (reduced K qs a)) arcs
+SignsKept K arcs ps qs = AllByRecursion (λ a. SignKept K (reduced K ps a) (reduced K qs a)) arcs
 
 -- a rise by c comes before one by d: what is at least zero first, then by how far from zero
 abbrev pub nearer : {C : Type 0} → Kind C → C → C → Bool
@@ -25,5 +25,5 @@ nearer K c d = cond (K.le K.zero d) (K.le K.zero c && K.le c d) (K.le K.zero c |
 
 -- where no sign turns, no kilter number rises
 abbrev pub KeptSignsEase : {C : Type 0} → Kind C → Type 0
-KeptSignsEase {C} K = (arcs : List (Arc C)) (flow : List ℤ) (ps qs : List C) → All (λ a. a.lo ≤ℤ a.hi) arcs → length flow ≡ length arcs → SignsKept K arcs ps qs →
+KeptSignsEase {C} K = (arcs : List (Arc C)) (flow : List ℤ) (ps qs : List C) → AllByRecursion (λ a. a.lo ≤ℤ a.hi) arcs → length flow ≡ length arcs → SignsKept K arcs ps qs →
     EachArc (λ a f. kilter_number K (reduced K qs a) a f ≤ kilter_number K (reduced K ps a) a f) arcs flow

@@ -1,6 +1,6 @@
 -- What a search owes for each of its answers.
 use Rattle.std.specs.Prelude.{◌≡◌, ℕ, ◌-◌, ◌*◌, ◌<◌, ◌≤◌, List, length, ℤ}
-use Rattle.std.specs.List.{AllByRecursion as All}
+use Rattle.std.specs.List.{AllByRecursion}
 use Rattle.costs.specs.Kinds.{Kind, sums}
 use Rattle.networks.specs.declared.network.Arc.{Arc}
 use Rattle.flows.specs.Flows.{EachArc, Within, Least, Meets, imbalance, total}
@@ -28,7 +28,7 @@ pub record LeastLeft {C : Type 0} (K : Kind C) (arcs : List (Arc C)) (budget : �
   pub in_limit : laps ≤ lap_limit (length arcs)
   pub kilter : EachArc (InKilter K left.prices) arcs left.flow
   pub total_is : cost ≡ total (sums K) arcs left.flow
-  pub unmarked : All (λ m. m ≡ 0) left.marks
+  pub unmarked : AllByRecursion (λ m. m ≡ 0) left.marks
 
 -- paused: the whole budget of laps, below the limit, led to a flow that is outside the bounds or not least
 pub record PausedLeft {C : Type 0} (K : Kind C) (N : ℕ) (arcs : List (Arc C)) (budget : ℕ) (found : Tables C) (laps : ℕ) (left : Tables C) : Type 0 where
@@ -36,7 +36,7 @@ pub record PausedLeft {C : Type 0} (K : Kind C) (N : ℕ) (arcs : List (Arc C)) 
   pub whole_budget : laps ≡ budget
   pub below_limit : laps < lap_limit (length arcs)
   pub not_least : EachArc Within arcs left.flow → Least K N arcs left.flow → ⊥
-  pub unmarked : All (λ m. m ≡ 0) left.marks
+  pub unmarked : AllByRecursion (λ m. m ≡ 0) left.marks
 
 -- none: the flow is as found, and the marks are a cut
 pub record NoneLeft {C : Type 0} (arcs : List (Arc C)) (found left : Tables C) : Type 0 where
@@ -52,7 +52,7 @@ Answers K N arcs budget found none left = NoneLeft arcs found left
 pub record Settles {C : Type 0} (K : Kind C) (N : ℕ) (arcs : List (Arc C)) (budget : ℕ) (found : Tables C) (answer : Answered C) (left : Tables C) : Type 0 where
   pub answers : Answers K N arcs budget found answer left
   pub needs_stay : left.needs ≡ found.needs
-  pub small_prices : All (λ p. K.size p ≤ (N - 1) * largest K arcs) left.prices
+  pub small_prices : AllByRecursion (λ p. K.size p ≤ (N - 1) * largest K arcs) left.prices
 
 -- the answer in words: least, that the flow left is within the bounds and no flow within them with the same imbalances has a lower total; none, that no flow within the bounds has the needs
 abbrev pub Says : {C : Type 0} → Kind C → ℕ → List (Arc C) → Tables C → Answered C → Tables C → Type 0

@@ -2,7 +2,7 @@
 use Rattle.std.proofs.Common.{◌≡◌, ℕ, zero, suc, ◌+◌, ◌<◌, ◌≤◌, Bool, true, false, cond, List, [], ◌∷◌, length, get_or, take, drop, set, ℤ, pos, ◌-ℤ◌, nat_abs, ◌≤ℤ◌, sym, refl, ap, ◌∙◌, subst, arith}
 use lib.Signed.{lt_z}
 use borrow.Author.Differences.{ints}
-use Rattle.std.specs.List.{AllByRecursion as All}
+use Rattle.std.specs.List.{AllByRecursion}
 use Rattle.std.proofs.lemmas.List.{drop_more}
 use Rattle.std.proofs.ByRecursion.{All-get_or, All-more, All-weaker}
 use Rattle.costs.specs.Kinds.{Kind}
@@ -63,15 +63,15 @@ le_trans a b c p q = omega (arith, ints)
 
 -- one step more
 pub least_more : {C : Type 0} (K : Kind C) (arcs : List (Arc C)) (flow : List ℤ) (prices : List C) (steps : List Step) (i : ℕ) (d : Step) (least x r : ℤ) → i < length steps → length flow ≡ length arcs →
-    All (Moving K arcs flow prices) steps → pos 1 ≤ℤ least → least ≤ℤ pos 2000000 → All (FitsIn K arcs flow prices least) (take i steps) → RoomIs K arcs flow prices (get_or steps i d) x → r ≡ cond (lt_z x least) x least →
-    (pos 1 ≤ℤ r) × (r ≤ℤ pos 2000000) × All (FitsIn K arcs flow prices r) (take (i + 1) steps)
+    AllByRecursion (Moving K arcs flow prices) steps → pos 1 ≤ℤ least → least ≤ℤ pos 2000000 → AllByRecursion (FitsIn K arcs flow prices least) (take i steps) → RoomIs K arcs flow prices (get_or steps i d) x → r ≡ cond (lt_z x least) x least →
+    (pos 1 ≤ℤ r) × (r ≤ℤ pos 2000000) × AllByRecursion (FitsIn K arcs flow prices r) (take (i + 1) steps)
 least_more {C} K arcs flow prices steps i d least x r h l moving low high all is e =
     let m = All-get_or (Moving K arcs flow prices) steps i d h moving in
     let s : Step = get_or steps i d in
     let a : Arc C = (at arcs s.arc m.0).0 in
     let there : IsAt arcs s.arc a = (at arcs s.arc m.0).1 in
     let some : pos 1 ≤ℤ x = subst (λ z. pos 1 ≤ℤ z) (sym (is a there)) (room_some K prices a s.along (get_or flow s.arc (pos 0)) (m.1 a there)) in
-    subst (λ z. (pos 1 ≤ℤ z) × (z ≤ℤ pos 2000000) × All (FitsIn K arcs flow prices z) (take (i + 1) steps)) (sym e) (
+    subst (λ z. (pos 1 ≤ℤ z) × (z ≤ℤ pos 2000000) × AllByRecursion (FitsIn K arcs flow prices z) (take (i + 1) steps)) (sym e) (
       lesser_both least x low some,
       le_trans (cond (lt_z x least) x least) least (pos 2000000) (lesser_first least x) high,
       All-more (FitsIn K arcs flow prices (cond (lt_z x least) x least)) steps i d h

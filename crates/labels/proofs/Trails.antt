@@ -1,7 +1,7 @@
 -- The way back by the labels is a lap with the chosen arc.
 use Rattle.std.proofs.Common.{◌≡◌, ℕ, zero, suc, ◌+◌, ◌<◌, ◌≤◌, Bool, true, false, cond, List, [], ◌∷◌, map, length, get_or, set, ℤ, pos, negsuc, ◌+ℤ◌, ◌-ℤ◌, neg_ℤ, nat_abs, ◌≤ℤ◌, ◌<ℤ◌, sym, refl, ap, ◌∙◌, subst, subst₂, ⊎_elim, arith, length-set}
 use borrow.Author.Differences.{ints}
-use Rattle.std.specs.List.{AllByRecursion as All}
+use Rattle.std.specs.List.{AllByRecursion}
 use Rattle.std.proofs.lemmas.List.{get_or-set_same, get_or-set_other}
 use Rattle.std.proofs.lemmas.Bool.{cases_eq}
 use Rattle.costs.specs.Kinds.{Kind, Laws}
@@ -71,7 +71,7 @@ set_small fs i y h s k j = ⊎_elim
 
 module _ {C : Type 0} (K : Kind C) (laws : Laws K) (arcs : List (Arc C)) (flow : List ℤ) (prices : List C) (fitting : Fitting K (length prices) arcs) where
   -- each step fits, and no arc is gone over twice: each is within the limits in its turn
-  steady_from : (x : ℤ) (steps : List Step) (fs : List ℤ) → length fs ≡ length arcs → pos 1 ≤ℤ x → Small fs → Apart (map (λ s. s.arc) steps) → All (λ s. s.arc < length arcs) steps → All (FitsIn K arcs fs prices x) steps → Steady x steps fs × Small (sent x steps fs)
+  steady_from : (x : ℤ) (steps : List Step) (fs : List ℤ) → length fs ≡ length arcs → pos 1 ≤ℤ x → Small fs → Apart (map (λ s. s.arc) steps) → AllByRecursion (λ s. s.arc < length arcs) steps → AllByRecursion (FitsIn K arcs fs prices x) steps → Steady x steps fs × Small (sent x steps fs)
   steady_from x [] fs l low small ap' is all = (tt, small)
   steady_from x (s ∷ rest) fs l low small (n, ns) (i, is) (h, hs) =
       let r = arc_there arcs s.arc i in
@@ -80,11 +80,11 @@ module _ {C : Type 0} (K : Kind C) (laws : Laws K) (arcs : List (Arc C)) (flow :
       let k = steady_from x rest (set fs s.arc (moved x s fs)) (length-set fs s.arc (moved x s fs) ∙ l) low (set_small fs s.arc (moved x s fs) spot small m) ns is (kept (moved x s fs) s.arc rest n hs) in
       ((spot, m, k.0), k.1)
     where
-      kept : (y : ℤ) (j : ℕ) (ts : List Step) → All (λ i. ¬ (j ≡ i)) (map (λ t. t.arc) ts) → All (FitsIn K arcs fs prices x) ts → All (FitsIn K arcs (set fs j y) prices x) ts
+      kept : (y : ℤ) (j : ℕ) (ts : List Step) → AllByRecursion (λ i. ¬ (j ≡ i)) (map (λ t. t.arc) ts) → AllByRecursion (FitsIn K arcs fs prices x) ts → AllByRecursion (FitsIn K arcs (set fs j y) prices x) ts
       kept y j [] n h = tt
       kept y j (t ∷ ts) (n, ns) (h, hs) = ((λ a is. subst (λ z. x ≤ℤ room_at K prices a t.along z) (sym (get_or-set_other fs j t.arc y (pos 0) (λ q. n (sym q)))) (h a is)), kept y j ts ns hs)
 
-  rooms_from : (x : ℤ) (steps : List Step) → pos 1 ≤ℤ x → All (FitsIn K arcs flow prices x) steps → All (HasRoom K prices arcs x flow) steps
+  rooms_from : (x : ℤ) (steps : List Step) → pos 1 ≤ℤ x → AllByRecursion (FitsIn K arcs flow prices x) steps → AllByRecursion (HasRoom K prices arcs x flow) steps
   rooms_from x [] low h = tt
   rooms_from x (s ∷ rest) low (h, hs) = ((λ a is. room_from K laws (length prices) prices arcs a s.along (get_or flow s.arc (pos 0)) x (fitting s.arc a is) low (h a is)), rooms_from x rest low hs)
 
@@ -102,7 +102,7 @@ module _ {C : Type 0} (K : Kind C) (laws : Laws K) (arcs : List (Arc C)) (flow :
     way_chain (s ∷ rest) j (m, l, h, e, p, w) = (subst₂ (λ y n. Leads arcs y n) e (sym (way_first rest m w)) (good.linked m l h).opens.leads, way_chain rest m w)
 
     -- the nodes of the steps stand at places from j on, and before k
-    way_places : (steps : List Step) (j : ℕ) → j < ls.count → Way ls j steps k → All (λ n. (j < place_of ls n) × (place_of ls n ≤ k)) (map (λ s. s.node) steps)
+    way_places : (steps : List Step) (j : ℕ) → j < ls.count → Way ls j steps k → AllByRecursion (λ n. (j < place_of ls n) × (place_of ls n ≤ k)) (map (λ s. s.node) steps)
     way_places [] j c e = tt
     way_places (s ∷ rest) j c (m, l, h, e, p, w) =
         let at : place_of ls s.node ≡ j + 1 = ap (place_of ls) (way_first (s ∷ rest) j (m, l, h, e, p, w)) ∙ good.whole.placed j c in
@@ -110,7 +110,7 @@ module _ {C : Type 0} (K : Kind C) (laws : Laws K) (arcs : List (Arc C)) (flow :
         let more = way_le rest m w in
         ((omega arith, omega arith), later (map (λ s. s.node) rest) (way_places rest m h w))
       where
-        later : (ns : List ℕ) → All (λ n. (m < place_of ls n) × (place_of ls n ≤ k)) ns → All (λ n. (j < place_of ls n) × (place_of ls n ≤ k)) ns
+        later : (ns : List ℕ) → AllByRecursion (λ n. (m < place_of ls n) × (place_of ls n ≤ k)) ns → AllByRecursion (λ n. (j < place_of ls n) × (place_of ls n ≤ k)) ns
         later [] a = tt
         later (n ∷ ns) (a, more) = let less = (good.linked m l h).earlier in ((omega arith, a.1), later ns more)
 
@@ -120,46 +120,46 @@ module _ {C : Type 0} (K : Kind C) (laws : Laws K) (arcs : List (Arc C)) (flow :
         let at : place_of ls s.node ≡ j + 1 = ap (place_of ls) (way_first (s ∷ rest) j (m, l, h, e, p, w)) ∙ good.whole.placed j c in
         (other at (map (λ s. s.node) rest) (way_places rest m h w), way_apart rest m h w)
       where
-        other : place_of ls s.node ≡ j + 1 → (ns : List ℕ) → All (λ n. (m < place_of ls n) × (place_of ls n ≤ k)) ns → All (λ n. ¬ (s.node ≡ n)) ns
+        other : place_of ls s.node ≡ j + 1 → (ns : List ℕ) → AllByRecursion (λ n. (m < place_of ls n) × (place_of ls n ≤ k)) ns → AllByRecursion (λ n. ¬ (s.node ≡ n)) ns
         other at [] a = tt
         other at (n ∷ ns) (a, more) = ((λ q. let less = (good.linked m l h).earlier in let r = ap (place_of ls) q in omega (arith, a.0)), other at ns more)
 
     -- none of them is the last node
-    way_ends : (ns : List ℕ) → All (λ n. (0 < place_of ls n) × (place_of ls n ≤ k)) ns → All (λ n. ¬ (node_at ls k ≡ n)) ns
+    way_ends : (ns : List ℕ) → AllByRecursion (λ n. (0 < place_of ls n) × (place_of ls n ≤ k)) ns → AllByRecursion (λ n. ¬ (node_at ls k ≡ n)) ns
     way_ends [] a = tt
     way_ends (n ∷ ns) (a, more) = ((λ q. let r = ap (place_of ls) q in omega (arith, a.1, good.whole.placed k place)), way_ends ns more)
 
-    way_moving : (steps : List Step) (j : ℕ) → Way ls j steps k → All (Moving K arcs flow prices) steps
+    way_moving : (steps : List Step) (j : ℕ) → Way ls j steps k → AllByRecursion (Moving K arcs flow prices) steps
     way_moving [] j e = tt
     way_moving (s ∷ rest) j (m, l, h, e, p, w) = let o = (good.linked m l h).opens in (subst (Moving K arcs flow prices) e (o.leads.1.0, o.may_move), way_moving rest m w)
 
-    way_other : (steps : List Step) (j : ℕ) → Way ls j steps k → All (λ s. ¬ (s.arc ≡ chosen)) steps
+    way_other : (steps : List Step) (j : ℕ) → Way ls j steps k → AllByRecursion (λ s. ¬ (s.arc ≡ chosen)) steps
     way_other [] j e = tt
     way_other (s ∷ rest) j (m, l, h, e, p, w) = (subst (λ z. ¬ (z.arc ≡ chosen)) e (good.linked m l h).opens.other, way_other rest m w)
 
   module _ (s : Step) (ls : Labels) (good : Good K arcs flow prices s.arc ls) (k : ℕ) (place : k < ls.count) (is : node_at ls k ≡ s.node) (rest : List Step) (way : Way ls 0 rest k)
       (long : length flow ≡ length arcs) (small : Small flow) (ch : Chosen K arcs flow prices s (node_at ls 0)) where
-    pub all_moving : All (Moving K arcs flow prices) (s ∷ rest)
+    pub all_moving : AllByRecursion (Moving K arcs flow prices) (s ∷ rest)
     all_moving = (ch.moving, way_moving s.arc ls good k place rest 0 way)
 
     chain : Chain arcs (s ∷ rest) s.node
     chain = subst (λ z. Chain arcs (s ∷ rest) z) is (subst (λ z. Leads arcs s z) (sym (way_first s.arc ls good k place rest 0 way)) ch.leads, way_chain s.arc ls good k place rest 0 way)
 
     nodes : Apart (map (λ t. t.node) (s ∷ rest))
-    nodes = (subst (λ z. All (λ n. ¬ (z ≡ n)) (map (λ t. t.node) rest)) is (way_ends s.arc ls good k place (map (λ t. t.node) rest) (way_places s.arc ls good k place rest 0 (omega (arith, good.some)) way)), way_apart s.arc ls good k place rest 0 (omega (arith, good.some)) way)
+    nodes = (subst (λ z. AllByRecursion (λ n. ¬ (z ≡ n)) (map (λ t. t.node) rest)) is (way_ends s.arc ls good k place (map (λ t. t.node) rest) (way_places s.arc ls good k place rest 0 (omega (arith, good.some)) way)), way_apart s.arc ls good k place rest 0 (omega (arith, good.some)) way)
 
     apart : Apart (map (λ t. t.arc) (s ∷ rest))
     apart = lap_apart arcs s rest chain nodes (λ t e q. only rest (way_other s.arc ls good k place rest 0 way) t e (sym q))
       where
-        only : (ts : List Step) → All (λ t. ¬ (t.arc ≡ s.arc)) ts → (t : Step) → ts ≡ t ∷ [] → t.arc ≡ s.arc → ⊥
+        only : (ts : List Step) → AllByRecursion (λ t. ¬ (t.arc ≡ s.arc)) ts → (t : Step) → ts ≡ t ∷ [] → t.arc ≡ s.arc → ⊥
         only [] o t e q = let z : ◌≡◌ {A = ℕ} 0 1 = cc in omega arith
         only (u ∷ us) (o, os) t e q = let same : u ≡ t = cc in o (ap (λ z. z.arc) same ∙ q)
 
-    inside : (ts : List Step) → All (Moving K arcs flow prices) ts → All (λ t. t.arc < length arcs) ts
+    inside : (ts : List Step) → AllByRecursion (Moving K arcs flow prices) ts → AllByRecursion (λ t. t.arc < length arcs) ts
     inside [] m = tt
     inside (t ∷ ts) (m, ms) = (m.0, inside ts ms)
 
-    pub steady : (x : ℤ) → pos 1 ≤ℤ x → All (FitsIn K arcs flow prices x) (s ∷ rest) → Steady x (s ∷ rest) flow × Small (sent x (s ∷ rest) flow)
+    pub steady : (x : ℤ) → pos 1 ≤ℤ x → AllByRecursion (FitsIn K arcs flow prices x) (s ∷ rest) → Steady x (s ∷ rest) flow × Small (sent x (s ∷ rest) flow)
     steady x low fits = steady_from x (s ∷ rest) flow long low small apart (inside (s ∷ rest) all_moving) fits
 
     whole : (x : ℤ) → pos 1 ≤ℤ x → pos (nat_abs x) ≡ x
@@ -169,7 +169,7 @@ module _ {C : Type 0} (K : Kind C) (laws : Laws K) (arcs : List (Arc C)) (flow :
     units : (x : ℤ) → pos 1 ≤ℤ x → 1 ≤ nat_abs x
     units x h = omega (arith, ints)
 
-    pub gone : (x : ℤ) (g : List ℤ) → pos 1 ≤ℤ x → All (FitsIn K arcs flow prices x) (s ∷ rest) → g ≡ sent x (s ∷ rest) flow → GoneRound K arcs prices flow g
+    pub gone : (x : ℤ) (g : List ℤ) → pos 1 ≤ℤ x → AllByRecursion (FitsIn K arcs flow prices x) (s ∷ rest) → g ≡ sent x (s ∷ rest) flow → GoneRound K arcs prices flow g
     gone x g low fits e =
         let roomy = roomy_from_start K prices arcs x (s ∷ rest) flow apart (rooms_from x (s ∷ rest) low fits) in
         let b = lap_better K laws prices arcs x s rest flow long chain roomy ch.amiss in

@@ -1,7 +1,7 @@
 // One lap: back by the labels from the sought node to the source, and over the chosen arc.
 
 ghost use Rattle.std.specs.Prelude.{◌≡◌, ℕ, ◌+◌, ◌<◌, ◌≤◌, List, ◌∷◌, length, drop, ℤ, pos, ◌-ℤ◌, ◌≤ℤ◌, if◌then◌else◌, int_lt, slice_set, unsigned_abs};
-ghost use Rattle.std.specs.List.{AllByRecursion as All};
+ghost use Rattle.std.specs.List.{AllByRecursion};
 ghost use Rattle.networks.specs.Nets.{shown};
 ghost use Rattle.flows.specs.Fits.{Fitting, Small, Bounded, price_limit};
 ghost use Rattle.flows.specs.Laps.{moved, sent};
@@ -72,10 +72,10 @@ fn least_room<N: Network>(net: &N, flow: &[i32], prices: &[N::Cost], steps: &[St
     requires moderate { Bounded N.Cost.CostKind.kind price_limit prices.now }
     requires long { length flow.now ≡ length (shown (N.meaning net.now)) }
     requires small { Small flow.now }
-    requires moving { All (Moving N.Cost.CostKind.kind (shown (N.meaning net.now)) flow.now prices.now) steps.now }
+    requires moving { AllByRecursion (Moving N.Cost.CostKind.kind (shown (N.meaning net.now)) flow.now prices.now) steps.now }
     ensures low { pos 1 ≤ℤ result }
     ensures high { result ≤ℤ pos 2000000 }
-    ensures least { All (FitsIn N.Cost.CostKind.kind (shown (N.meaning net.now)) flow.now prices.now result) steps.now }
+    ensures least { AllByRecursion (FitsIn N.Cost.CostKind.kind (shown (N.meaning net.now)) flow.now prices.now result) steps.now }
 {
     let mut least = 2_000_000;
     for step in steps {

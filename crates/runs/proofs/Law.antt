@@ -1,6 +1,6 @@
 -- The law over runs, from what one call does.
 use Rattle.std.proofs.Common.{◌≡◌, ℕ, ◌-◌, ◌<◌, ◌≤◌, Bool, true, false, ◌⊎◌, ◌↔◌, List, [], ◌∷◌, ◌++◌, length, get_or, ℤ, pos, Some, sym, refl, ap, ◌∙◌, subst, subst₂, inl, inr, arith}
-use Rattle.std.specs.List.{AllByRecursion as All}
+use Rattle.std.specs.List.{AllByRecursion}
 use Rattle.std.proofs.ByRecursion.{All-push}
 use Rattle.std.proofs.lemmas.Bool.{cond-true, cond-false}
 use Rattle.costs.specs.Kinds.{Kind, Laws, sums}
@@ -141,7 +141,7 @@ module _ {C : Type 0} (K : Kind C) where
     unmoved : (P : State C → Type 0) → ¬ Granted e → P p → P q
     unmoved P no-grant h = subst P (sym (idle K p e q w no-grant)) h
 
-    passed_ends : SettlePasses K p → All (Ends p.net.nodes) (shown p.net)
+    passed_ends : SettlePasses K p → AllByRecursion (Ends p.net.nodes) (shown p.net)
     passed_ends ok = all_ends K p.net.nodes (shown p.net) (no_stop K p.net p.tables.flow p.tables.needs (length p.tables.prices) (length p.tables.marks) ok).fits
 
     abbrev LeastAt : C → State C → Type 0
@@ -181,7 +181,7 @@ module _ {C : Type 0} (K : Kind C) where
             let x-is : x ≡ none = cc in
             let r = (subst (λ y. Settles K p.net.nodes (shown p.net) b p.tables y q.tables) x-is s).answers in
             let n : Passed K p.net p.tables.flow p.tables.needs (length p.tables.prices) (length p.tables.marks) = no_stop K p.net p.tables.flow p.tables.needs (length p.tables.prices) (length p.tables.marks) ok in
-            let sure = left_is_none (shown p.net) p.tables q.tables (subst (λ N. All (Ends N) (shown p.net)) (sym n.needs_long) (passed_ends ok)) r in
+            let sure = left_is_none (shown p.net) p.tables q.tables (subst (λ N. AllByRecursion (Ends N) (shown p.net)) (sym n.needs_long) (passed_ends ok)) r in
             let cut : MarksCut (shown p.net) q.tables.needs q.tables.marks = subst (λ ns. MarksCut (shown p.net) ns q.tables.marks) (sym s.needs_stay) r.cut in
             let never : (g : List ℤ) → EachArc Within (shown p.net) g → ¬ SameImbalances p.net.nodes (shown p.net) q.tables.flow g
             = λ g within alike. sure g within (λ m l h. sym (alike m l (omega (arith, h, n.needs_long))) ∙ ap (λ fs. imbalance (shown p.net) fs m) r.as_found ∙ n.meets m l h) in

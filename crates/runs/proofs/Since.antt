@@ -1,6 +1,6 @@
 -- An event more in a run.
 use Rattle.std.proofs.Common.{◌≡◌, ℕ, zero, suc, ◌+◌, ◌<◌, ◌⊎◌, List, [], ◌∷◌, ◌++◌, length, get_or, take, set, ℤ, sym, refl, ap, ◌∙◌, subst, inl, inr, append_assoc, suc-add, arith, length-append}
-use Rattle.std.specs.List.{AllByRecursion as All}
+use Rattle.std.specs.List.{AllByRecursion}
 use Rattle.std.proofs.lemmas.List.{same_from_push}
 use Rattle.std.proofs.ByRecursion.{All-push}
 use Rattle.runs.specs.declared.calls.Call.{Call}
@@ -15,7 +15,7 @@ last_cases (y ∷ ys) = inr (go (last_cases ys))
     go (inl e) = ([], (y, ap (λ l. y ∷ l) e))
     go (inr (zs, (z, e))) = (y ∷ zs, (z, ap (λ l. y ∷ l) e))
 
-all_pop : {X : Type 0} (P : X → Type 0) (xs : List X) (x : X) → All P (xs ++ (x ∷ [])) → All P xs × P x
+all_pop : {X : Type 0} (P : X → Type 0) (xs : List X) (x : X) → AllByRecursion P (xs ++ (x ∷ [])) → AllByRecursion P xs × P x
 all_pop P [] x (p, t) = (tt, p)
 all_pop P (y ∷ ys) x (p, h) = ((p, (all_pop P ys x h).0), (all_pop P ys x h).1)
 
@@ -40,7 +40,7 @@ module _ {C : Type 0} (es : List (Event C)) (e : Event C) (P Q : Event C → Typ
       go (inl n) = inl (subst P (sym (same_from_push es s.before e s.here (s.is ∙ ap (λ a. s.before ++ (s.here ∷ a)) n)).1) s.so)
       go (inr (zs, (z, n))) =
           let same = same_from_push es (s.before ++ (s.here ∷ zs)) e z (s.is ∙ ap (λ a. s.before ++ (s.here ∷ a)) n ∙ sym (append_assoc s.before (s.here ∷ zs) (z ∷ []))) in
-          let all : All (λ x. ¬ Q x) (zs ++ (z ∷ [])) = subst (λ a. All (λ x. ¬ Q x) a) n s.none_since in
+          let all : AllByRecursion (λ x. ¬ Q x) (zs ++ (z ∷ [])) = subst (λ a. AllByRecursion (λ x. ¬ Q x) a) n s.none_since in
           inr (subst (λ x. ¬ Q x) (sym same.1) (all_pop (λ x. ¬ Q x) zs z all).1, record { before = s.before; here = s.here; after = zs; is = same.0; so = s.so; none_since = (all_pop (λ x. ¬ Q x) zs z all).0 })
 
 -- at the start nothing has been

@@ -1,6 +1,6 @@
 -- The four ways of a step: refused, settled, a change of the network, or a flow taken up.
 use Rattle.std.proofs.Common.{◌≡◌, ℕ, suc, Bool, true, false, cond, ◌&&◌, eqb, List, [], ◌∷◌, length, ℤ, Some, None, Option, sym, refl, ap, ◌∙◌, subst, arith}
-use Rattle.std.specs.List.{AllByRecursion as All}
+use Rattle.std.specs.List.{AllByRecursion}
 use Rattle.costs.specs.Kinds.{Kind}
 use Rattle.networks.specs.declared.network.Arc.{Arc}
 use Rattle.networks.specs.Answers.{Told}
@@ -150,6 +150,6 @@ module _ {C : Type 0} (K : Kind C) (p : State C) (e : Event C) (q : State C) whe
       (no_stop K p.net fs p.tables.needs (length p.tables.prices) (length p.tables.marks) ok).meets
 
 -- the ends of arcs that fit
-pub all_ends : {C : Type 0} (K : Kind C) (N : ℕ) (arcs : List (Arc C)) → Fitting K N arcs → All (Ends N) arcs
+pub all_ends : {C : Type 0} (K : Kind C) (N : ℕ) (arcs : List (Arc C)) → Fitting K N arcs → AllByRecursion (Ends N) arcs
 all_ends K N [] f = tt
 all_ends K N (a ∷ rest) f = ((f 0 a (omega arith, refl)).ends, all_ends K N rest (λ i b h. f (suc i) b (omega (arith, h.0), h.1)))

@@ -1,6 +1,6 @@
 -- Events: a call on a plan with its outcome.
 use Rattle.std.specs.Prelude.{◌≡◌, ℕ, Bool, true, false, List, [], ◌∷◌, ◌++◌, take, drop, ℤ}
-use Rattle.std.specs.List.{AllByRecursion as All}
+use Rattle.std.specs.List.{AllByRecursion}
 use Rattle.networks.specs.Answers.{Told}
 use Rattle.networks.specs.Stops.{told}
 use Rattle.flows.specs.Settles.{Answered}
@@ -71,7 +71,7 @@ pub record SomeSince {C : Type 0} (es : List (Event C)) (P Q : Event C → Type 
   pub after : List (Event C)
   pub is : es ≡ before ++ (here ∷ after)
   pub so : P here
-  pub none_since : All (λ e. ¬ Q e) after
+  pub none_since : AllByRecursion (λ e. ¬ Q e) after
 
 -- the last granted event answered so
 abbrev pub LastAnswered : {C : Type 0} → List (Event C) → Answered C → Type 0

@@ -1,6 +1,6 @@
 -- The law over runs: what holds after any list of calls on a new plan, by the calls and their outcomes alone.
 use Rattle.std.specs.Prelude.{◌≡◌, ℕ, ◌≤◌, true, false, ◌⊎◌, ◌↔◌, List, [], ◌∷◌, ◌++◌, length, ℤ, pos, Some}
-use Rattle.std.specs.List.{AllByRecursion as All}
+use Rattle.std.specs.List.{AllByRecursion}
 use Rattle.costs.specs.Kinds.{Kind, sums}
 use Rattle.networks.specs.declared.network.Arc.{Arc}
 use Rattle.networks.specs.Nets.{arc_at, shown}
@@ -22,12 +22,12 @@ SameEnds (x ∷ xs) (y ∷ ys) = (x.from ≡ y.from) × (x.to ≡ y.to) × SameE
 -- the bounds of arc a are those of its latest granted rebound, else those at opening
 abbrev pub BoundsAre : {C : Type 0} → State C → List (Event C) → ℕ → ℤ → ℤ → Type 0
 BoundsAre {C} opening es a lo hi = SomeSince es (GrantedCall (rebound a lo hi)) (Rebounds a) ⊎
-    (All (λ e. ¬ Rebounds a e) es × ((x : Arc C) → arc_at opening.net a ≡ Some x → (x.lo ≡ lo) × (x.hi ≡ hi)))
+    (AllByRecursion (λ e. ¬ Rebounds a e) es × ((x : Arc C) → arc_at opening.net a ≡ Some x → (x.lo ≡ lo) × (x.hi ≡ hi)))
 
 -- its cost is that of its latest granted recost, else that at opening
 abbrev pub CostIs : {C : Type 0} → State C → List (Event C) → ℕ → C → Type 0
 CostIs {C} opening es a c = SomeSince es (GrantedCall (recost a c)) (Recosts a) ⊎
-    (All (λ e. ¬ Recosts a e) es × ((x : Arc C) → arc_at opening.net a ≡ Some x → x.cost ≡ c))
+    (AllByRecursion (λ e. ¬ Recosts a e) es × ((x : Arc C) → arc_at opening.net a ≡ Some x → x.cost ≡ c))
 
 -- a settle came to an end: least or none
 abbrev pub CameToAnEnd : {C : Type 0} → Came C → Type 0
@@ -50,7 +50,7 @@ pub record Run {C : Type 0} (K : Kind C) (opening : State C) (es : List (Event C
   pub none_is_none : LastAnswered es none →
       MarksCut (shown left.net) left.tables.needs left.tables.marks × ((g : List ℤ) → EachArc Within (shown left.net) g → ¬ SameImbalances left.net.nodes (shown left.net) left.tables.flow g)
   -- a granted settle with a budget of at least 2,000,000 × A came to an end
-  pub ended : All (λ e. (budget : ℕ) → GrantedCall (settle budget) e → lap_limit (length (shown opening.net)) ≤ budget → CameToAnEnd e.outcome) es
+  pub ended : AllByRecursion (λ e. (budget : ℕ) → GrantedCall (settle budget) e → lap_limit (length (shown opening.net)) ≤ budget → CameToAnEnd e.outcome) es
   -- opened with none out: an arc is out at a lock-out exactly when it was taken out there and not handed back there since
   pub outs : NoneOut opening.net → (l a : ℕ) → (out_in left.net l a ≡ true) ↔ SomeSince es (GrantedCall (take_out l a)) (GrantedCall (hand_back l a))
   -- out at some lock-out, it shows 0 to 0

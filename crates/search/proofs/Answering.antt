@@ -1,6 +1,6 @@
 -- What each end of the search comes to once the prices are tidied.
 use Rattle.std.proofs.Common.{◌≡◌, ℕ, suc, ◌-◌, ◌*◌, ◌<◌, ◌≤◌, List, [], ◌∷◌, length, get_or, ℤ, pos, sym, ◌∙◌, subst, arith}
-use Rattle.std.specs.List.{AllByRecursion as All}
+use Rattle.std.specs.List.{AllByRecursion}
 use Rattle.std.proofs.lemmas.List.{get_or_default}
 use Rattle.costs.specs.Kinds.{Kind, Laws, sums}
 use Rattle.networks.specs.declared.network.Arc.{Arc}
@@ -21,12 +21,12 @@ use Rattle.search.proofs.Taming.{tidied_ready, tidied_eased}
 use Rattle.search.proofs.Steps.{going_repriced}
 
 -- a table that holds P at each place
-pub all_places : {X : Type 0} (P : X → Type 0) (xs : List X) (d : X) → ((k : ℕ) → k < length xs → P (get_or xs k d)) → All P xs
+pub all_places : {X : Type 0} (P : X → Type 0) (xs : List X) (d : X) → ((k : ℕ) → k < length xs → P (get_or xs k d)) → AllByRecursion P xs
 all_places P [] d h = tt
 all_places P (x ∷ xs) d h = (h 0 (omega arith), all_places P xs d (λ k l. h (suc k) (omega arith)))
 
 module _ {C : Type 0} (K : Kind C) (laws : Laws K) (N : ℕ) (arcs : List (Arc C)) (found flow : List ℤ) (qs rs : List C) (tidied : Tidied K arcs qs rs) where
-  pub small_prices : length qs ≡ N → All (λ p. K.size p ≤ (N - 1) * largest K arcs) rs
+  pub small_prices : length qs ≡ N → AllByRecursion (λ p. K.size p ≤ (N - 1) * largest K arcs) rs
   small_prices l = all_places (λ p. K.size p ≤ (N - 1) * largest K arcs) rs K.zero (λ k h. subst (λ z. K.size (get_or rs k K.zero) ≤ (z - 1) * largest K arcs) l (tidied.small k h))
 
   pub least_left : (budget laps : ℕ) (cost : C) (needs : List ℤ) (ps : List C) (ms marks : List ℕ) → Going K N arcs found (length flow) laps flow qs → laps ≤ budget → cost ≡ total (sums K) arcs flow →

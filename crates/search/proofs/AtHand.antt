@@ -1,6 +1,6 @@
 -- Where the sought node is labelled, a lap is at hand that leads to a better flow.
 use Rattle.std.proofs.Common.{◌≡◌, ℕ, zero, suc, ◌-◌, ◌<◌, ◌≤◌, List, [], ◌∷◌, length, get_or, ℤ, pos, refl, subst, ⊎_elim, arith}
-use Rattle.std.specs.List.{AllByRecursion as All}
+use Rattle.std.specs.List.{AllByRecursion}
 use Rattle.std.proofs.lemmas.Bool.{cases_eq}
 use Rattle.costs.specs.Kinds.{Kind, Laws}
 use Rattle.networks.specs.declared.network.Arc.{Arc}
@@ -28,7 +28,7 @@ module _ {C : Type 0} (K : Kind C) (laws : Laws K) (arcs : List (Arc C)) (flow :
       way_back k n (entry_at ls m).parent ((entry_at ls m).step ∷ rest) (omega arith) (omega arith) (m, l, c, refl, refl, w))
       (cases_eq m 0)
 
-  one_fits : (ts : List Step) → All (Moving K arcs flow prices) ts → All (FitsIn K arcs flow prices (pos 1)) ts
+  one_fits : (ts : List Step) → AllByRecursion (Moving K arcs flow prices) ts → AllByRecursion (FitsIn K arcs flow prices (pos 1)) ts
   one_fits [] m = tt
   one_fits (t ∷ ts) (m, ms) = ((λ a is. room_some K prices a t.along (get_or flow t.arc (pos 0)) (m.1 a is)), one_fits ts ms)
 

@@ -1,6 +1,6 @@
 -- Tidied prices are tame, and raise no kilter number.
 use Rattle.std.proofs.Common.{◌≡◌, ℕ, suc, ◌-◌, ◌*◌, ◌≤◌, List, [], ◌∷◌, length, ℤ, ◌≤ℤ◌, refl, ◌∙◌, mul-le-mul_left, arith}
-use Rattle.std.specs.List.{AllByRecursion as All}
+use Rattle.std.specs.List.{AllByRecursion}
 use Rattle.costs.specs.Kinds.{Kind, Laws}
 use Rattle.networks.specs.declared.network.Arc.{Arc}
 use Rattle.flows.specs.Kilter.{largest}
@@ -24,7 +24,7 @@ module _ {C : Type 0} (K : Kind C) where
   eased_both (a ∷ arcs) [] ps qs rs p q = absurd p
   eased_both (a ∷ arcs) (f ∷ fs) ps qs rs (p, more) (q, rest) = (omega arith, eased_both arcs fs ps qs rs more rest)
 
-  ordered : (N : ℕ) (arcs : List (Arc C)) → Fitting K N arcs → All (λ a. a.lo ≤ℤ a.hi) arcs
+  ordered : (N : ℕ) (arcs : List (Arc C)) → Fitting K N arcs → AllByRecursion (λ a. a.lo ≤ℤ a.hi) arcs
   ordered N [] f = tt
   ordered N (a ∷ rest) f = ((f 0 a (omega arith, refl)).order, ordered N rest (λ i b h. f (suc i) b (omega (arith, h.0), h.1)))
 

@@ -1,6 +1,6 @@
 -- What settle owes for an answer, where no stop came, gives its promise in words.
 use Rattle.std.proofs.Common.{◌≡◌, ℕ, ◌-◌, ◌*◌, ◌≤◌, List, length, ℤ, None, Ok, Err, Result, refl}
-use Rattle.std.specs.List.{AllByRecursion as All}
+use Rattle.std.specs.List.{AllByRecursion}
 use Rattle.costs.specs.Kinds.{Kind, Laws}
 use Rattle.networks.specs.declared.stops.Stop.{Stop}
 use Rattle.networks.specs.Nets.{Net, shown}
@@ -14,7 +14,7 @@ use Rattle.search.specs.Settling.{tables, answered, Settled, Worded}
 
 -- an answer and small prices settle the network, with the needs as they were
 pub settled_by : {C : Type 0} (K : Kind C) (n : Net C) (budget : ℕ) (flow needs : List ℤ) (ps : List C) (marks : List ℕ) (a : Answer C) (g : List ℤ) (qs : List C) (after : List ℕ) →
-    Answers K n.nodes (shown n) budget (tables flow needs ps marks) (answered a) (tables g needs qs after) → All (λ p. K.size p ≤ (n.nodes - 1) * largest K (shown n)) qs →
+    Answers K n.nodes (shown n) budget (tables flow needs ps marks) (answered a) (tables g needs qs after) → AllByRecursion (λ p. K.size p ≤ (n.nodes - 1) * largest K (shown n)) qs →
     Settled K n budget (tables flow needs ps marks) (Ok a) (tables g needs qs after)
 settled_by K n budget flow needs ps marks a g qs after r small = record { answers = r; needs_stay = refl; small_prices = small }
 

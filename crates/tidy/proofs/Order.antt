@@ -1,6 +1,6 @@
 -- The nearest of the slacks.
 use Rattle.std.proofs.Common.{◌≡◌, ℕ, Bool, true, false, cond, ◌&&◌, ◌||◌, List, [], ◌∷◌, Some, None, Option, sym, refl, subst, arith}
-use Rattle.std.specs.List.{AllByRecursion as All}
+use Rattle.std.specs.List.{AllByRecursion}
 use Rattle.networks.specs.declared.network.Arc.{Arc}
 use Rattle.costs.specs.Kinds.{Kind, Laws}
 use Rattle.flows.proofs.Group.{le_refl, off_on}
@@ -76,14 +76,14 @@ module _ {C : Type 0} (K : Kind C) (laws : Laws K) where
       Allows a = (q : Pick C) → slack_of K ps ms a ≡ Some q → nearer K p.far q.far ≡ true
 
       fold_nearest : (arcs : List (Arc C)) (best : Option (Pick C)) → nearest_of K ps ms best arcs ≡ Some p →
-          ((b : Pick C) → best ≡ Some b → nearer K p.far b.far ≡ true) × All Allows arcs
+          ((b : Pick C) → best ≡ Some b → nearer K p.far b.far ≡ true) × AllByRecursion Allows arcs
       fold_nearest [] best h = ((λ b e. let s : p ≡ b = cc in subst (λ z. nearer K p.far z.far ≡ true) s (nearer_refl p.far)), tt)
       fold_nearest (a ∷ rest) best h =
           let next = fold_nearest rest (chosen K best (slack_of K ps ms a)) h in
           let here = both best (slack_of K ps ms a) next.0 in
           (here.0, (here.1, next.1))
 
-      pub nearest_allows : (arcs : List (Arc C)) → nearest_of K ps ms None arcs ≡ Some p → All Allows arcs
+      pub nearest_allows : (arcs : List (Arc C)) → nearest_of K ps ms None arcs ≡ Some p → AllByRecursion Allows arcs
       nearest_allows arcs h = (fold_nearest arcs None h).1
 
       -- what holds of the slack of each arc holds of the nearest
@@ -97,12 +97,12 @@ module _ {C : Type 0} (K : Kind C) (laws : Laws K) where
           go false = k
 
       pub nearest_is : (Q : Pick C → Type 0) (arcs : List (Arc C)) (best : Option (Pick C)) → ((b : Pick C) → best ≡ Some b → Q b) →
-          All (λ a. (q : Pick C) → slack_of K ps ms a ≡ Some q → Q q) arcs → nearest_of K ps ms best arcs ≡ Some p → Q p
+          AllByRecursion (λ a. (q : Pick C) → slack_of K ps ms a ≡ Some q → Q q) arcs → nearest_of K ps ms best arcs ≡ Some p → Q p
       nearest_is Q [] best h t e = h p e
       nearest_is Q (a ∷ rest) best h (k, ks) e = nearest_is Q rest (chosen K best (slack_of K ps ms a)) (one_of Q best (slack_of K ps ms a) h k) ks e
 
   -- none is nearest: no arc has a slack
-  pub nearest_none : (ps : List C) (ms : List Bool) (arcs : List (Arc C)) (best : Option (Pick C)) → nearest_of K ps ms best arcs ≡ None → (best ≡ None) × All (λ a. slack_of K ps ms a ≡ None) arcs
+  pub nearest_none : (ps : List C) (ms : List Bool) (arcs : List (Arc C)) (best : Option (Pick C)) → nearest_of K ps ms best arcs ≡ None → (best ≡ None) × AllByRecursion (λ a. slack_of K ps ms a ≡ None) arcs
   nearest_none ps ms [] best h = (h, tt)
   nearest_none ps ms (a ∷ rest) best h =
       let next = nearest_none ps ms rest (chosen K best (slack_of K ps ms a)) h in

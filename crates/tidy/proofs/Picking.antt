@@ -1,6 +1,6 @@
 -- The nearest slack, or where there is none any node that is not labelled, is a good pick.
 use Rattle.std.proofs.Common.{◌≡◌, ℕ, ◌+◌, ◌-◌, ◌<◌, ◌≤◌, Bool, true, false, cond, List, [], ◌∷◌, length, get_or, Some, None, sym, refl, ap, ◌∙◌, subst, arith}
-use Rattle.std.specs.List.{AllByRecursion as All}
+use Rattle.std.specs.List.{AllByRecursion}
 use Rattle.networks.specs.declared.network.Arc.{Arc}
 use Rattle.costs.specs.Kinds.{Kind, Laws, minus}
 use Rattle.flows.proofs.Group.{right, swap, cancel, size_zero, size_reduced, size_neg, size_minus}
@@ -15,7 +15,7 @@ use Rattle.flows.specs.Flows.{Ends}
 use Rattle.flows.specs.Prices.{SignKept, SignsKept}
 use Rattle.flows.specs.Fits.{Bounded, price_limit, change_limit}
 
-pub all_both : {X : Type 0} (P Q R : X → Type 0) → ((x : X) → P x → Q x → R x) → (xs : List X) → All P xs → All Q xs → All R xs
+pub all_both : {X : Type 0} (P Q R : X → Type 0) → ((x : X) → P x → Q x → R x) → (xs : List X) → AllByRecursion P xs → AllByRecursion Q xs → AllByRecursion R xs
 all_both P Q R h [] p q = tt
 all_both P Q R h (x ∷ xs) (p, ps) (q, qs) = (h x p q, all_both P Q R h xs ps qs)
 
@@ -77,7 +77,7 @@ module _ {C : Type 0} (K : Kind C) (laws : Laws K) (ms : List Bool) (ps : List C
       go false false u v e = some_none e
 
   module _ (arcs : List (Arc C)) (sound : Sound K arcs (length ps)) where
-    kept_all : (e : C) → All (λ a. (q : Pick C) → slack_of K ps ms a ≡ Some q → nearer K e q.far ≡ true) arcs → (qs : List C) → Raised K e ms ps qs → SignsKept K arcs ps qs
+    kept_all : (e : C) → AllByRecursion (λ a. (q : Pick C) → slack_of K ps ms a ≡ Some q → nearer K e q.far ≡ true) arcs → (qs : List C) → Raised K e ms ps qs → SignsKept K arcs ps qs
     kept_all e h qs r = all_both (Ends (length ps)) (λ a. (q : Pick C) → slack_of K ps ms a ≡ Some q → nearer K e q.far ≡ true) (λ a. SignKept K (reduced K ps a) (reduced K qs a))
         (λ a ends allows. arc_kept K laws e ms ps qs a ends r allows) arcs sound.ends h
 

@@ -1,6 +1,6 @@
 -- Networks that fit are sound for tidying.
 use Rattle.std.proofs.Common.{ℕ, suc, ◌≤◌, List, [], ◌∷◌, refl, arith}
-use Rattle.std.specs.List.{AllByRecursion as All}
+use Rattle.std.specs.List.{AllByRecursion}
 use Rattle.costs.specs.Kinds.{Kind}
 use Rattle.networks.specs.declared.network.Arc.{Arc}
 use Rattle.flows.specs.Flows.{Ends}
@@ -9,7 +9,7 @@ use Rattle.flows.specs.Fits.{Fitting}
 use Rattle.tidy.specs.Picks.{Sound}
 
 module _ {C : Type 0} (K : Kind C) where
-  all_ends : (N : ℕ) (arcs : List (Arc C)) → Fitting K N arcs → All (Ends N) arcs
+  all_ends : (N : ℕ) (arcs : List (Arc C)) → Fitting K N arcs → AllByRecursion (Ends N) arcs
   all_ends N [] f = tt
   all_ends N (a ∷ rest) f = ((f 0 a (omega arith, refl)).ends, all_ends N rest (λ i b h. f (suc i) b (omega (arith, h.0), h.1)))
 
@@ -24,9 +24,9 @@ module _ {C : Type 0} (K : Kind C) where
   sound_from N arcs f = record { ends = all_ends N arcs f; costs = all_cheap N arcs f }
 
 -- no arc costs more than the largest
-pub none_larger : {C : Type 0} (K : Kind C) (arcs : List (Arc C)) → All (λ a. K.size a.cost ≤ largest K arcs) arcs
+pub none_larger : {C : Type 0} (K : Kind C) (arcs : List (Arc C)) → AllByRecursion (λ a. K.size a.cost ≤ largest K arcs) arcs
 none_larger {C} K arcs = go arcs (largest K arcs) (omega arith)
   where
-    go : (arcs : List (Arc C)) (n : ℕ) → largest K arcs ≤ n → All (λ a. K.size a.cost ≤ n) arcs
+    go : (arcs : List (Arc C)) (n : ℕ) → largest K arcs ≤ n → AllByRecursion (λ a. K.size a.cost ≤ n) arcs
     go [] n h = tt
     go (a ∷ rest) n h = (omega arith, go rest n (omega arith))

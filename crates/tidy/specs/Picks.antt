@@ -1,6 +1,6 @@
 -- The node that is labelled next, and by how much the prices of the nodes that are not yet labelled change.
 use Rattle.std.specs.Prelude.{◌≡◌, ℕ, suc, ◌+◌, ◌-◌, ◌*◌, ◌<◌, ◌≤◌, Bool, true, false, cond, ◌&&◌, ◌||◌, List, [], ◌∷◌, length, get_or, Some, None, Option, slice_index_or}
-use Rattle.std.specs.List.{AllByRecursion as All}
+use Rattle.std.specs.List.{AllByRecursion}
 use Rattle.networks.specs.declared.network.Arc.{Arc}
 use Rattle.costs.specs.Kinds.{Kind}
 use Rattle.tidy.specs.declared.picks.Pick.{Pick}
@@ -21,7 +21,7 @@ pub record Tidied {C : Type 0} (K : Kind C) (arcs : List (Arc C)) (ps qs : List 
 
 -- ends are nodes, and no cost is too large
 pub record Sound {C : Type 0} (K : Kind C) (arcs : List (Arc C)) (n : ℕ) : Type 0 where
-  pub ends : All (Ends n) arcs
+  pub ends : AllByRecursion (Ends n) arcs
   pub costs : largest K arcs ≤ 1000000
 
 abbrev pub picked : {C : Type 0} → ℕ → C → Pick C

@@ -1,6 +1,6 @@
 use Rattle.networks.specs.Nets.{shown}
 use Rattle.std.proofs.Common.{◌≡◌, ℕ, ◌+◌, ◌-◌, List, ◌∷◌, length, take, drop, sym, ap, ◌∙◌, subst, arith, length-drop, w32, SFits, to_z, of_z, rules}
-use Rattle.std.specs.List.{AllByRecursion as All}
+use Rattle.std.specs.List.{AllByRecursion}
 use Rattle.std.proofs.lemmas.List.{take_all}
 use Rattle.std.proofs.lemmas.Int.{to_z-of_z}
 use Rattle.flows.specs.Laps.{sent}
@@ -33,7 +33,7 @@ least_room-amount-requires g c =
       moderate = c.requires.moderate;
       long = c.requires.long;
       small = c.requires.small;
-      moving = subst (All (Moving K arcs c.args.flow.now c.args.prices.now)) (sym e)
+      moving = subst (AllByRecursion (Moving K arcs c.args.flow.now c.args.prices.now)) (sym e)
           (all_moving K g.met.N.Cost.CostKind.lawful arcs c.args.flow.now c.args.prices.now c.requires.fitting s ls c.requires.good (place_of ls s.node - 1) (omega (arith, h.0, c.requires.reached)) h.1 (drop (r + 1) steps) c.trace-start.ensures.rest c.requires.long c.requires.small c.requires.chosen);
     }
 
@@ -51,7 +51,7 @@ send-requires g c =
     let f : SFits w32 c.least_room-amount.result = search rules in
     subst (λ z. Steady (to_z w32 (of_z w32 x)) z c.args.flow.now) (sym e) (subst (λ z. Steady z (s ∷ drop (r + 1) steps) c.args.flow.now) (sym (to_z-of_z w32 x f))
     (steady K g.met.N.Cost.CostKind.lawful arcs c.args.flow.now c.args.prices.now c.requires.fitting s ls c.requires.good (place_of ls s.node - 1) (omega (arith, h.0, c.requires.reached)) h.1 (drop (r + 1) steps) c.trace-start.ensures.rest c.requires.long c.requires.small c.requires.chosen
-    x c.least_room-amount.ensures.low (subst (All (FitsIn K arcs c.args.flow.now c.args.prices.now x)) e c.least_room-amount.ensures.least)).0)
+    x c.least_room-amount.ensures.low (subst (AllByRecursion (FitsIn K arcs c.args.flow.now c.args.prices.now x)) e c.least_room-amount.ensures.least)).0)
 
 pub returns : goal.returns
 returns g c =
@@ -66,5 +66,5 @@ returns g c =
     let x = c.least_room-amount.result in
     let f : SFits w32 c.least_room-amount.result = search rules in
     gone K g.met.N.Cost.CostKind.lawful arcs c.args.flow.now c.args.prices.now c.requires.fitting s ls c.requires.good (place_of ls s.node - 1) (omega (arith, h.0, c.requires.reached)) h.1 (drop (r + 1) steps) c.trace-start.ensures.rest c.requires.long c.requires.small c.requires.chosen
-    x c.send.new.flow c.least_room-amount.ensures.low (subst (All (FitsIn K arcs c.args.flow.now c.args.prices.now x)) e c.least_room-amount.ensures.least)
+    x c.send.new.flow c.least_room-amount.ensures.low (subst (AllByRecursion (FitsIn K arcs c.args.flow.now c.args.prices.now x)) e c.least_room-amount.ensures.least)
     (c.send.ensures ∙ ap (λ z. sent z (take (256 - r) (drop r steps)) c.args.flow.now) (to_z-of_z w32 x f) ∙ ap (λ z. sent x z c.args.flow.now) e)

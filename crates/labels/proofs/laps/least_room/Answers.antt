@@ -1,6 +1,6 @@
 use Rattle.networks.specs.Nets.{shown}
 use Rattle.std.proofs.Common.{false, ◌∙◌, subst, arith, w32, SFits, to_z, of_z, rules}
-use Rattle.std.specs.List.{AllByRecursion as All}
+use Rattle.std.specs.List.{AllByRecursion}
 use Rattle.std.proofs.lemmas.List.{take_all}
 use Rattle.std.proofs.ByRecursion.{All-get_or}
 use Rattle.std.proofs.lemmas.Int.{to_z-of_z}
@@ -25,5 +25,5 @@ pub returns : goal.returns
 returns g c = record {
   low = c.loop-step.invariant.0;
   high = c.loop-step.invariant.1;
-  least = subst (All (FitsIn g.N.Cost.CostKind.kind (shown (g.N.Network.meaning c.args.net.now)) c.args.flow.now c.args.prices.now _)) (take_all c.loop-step.step-index c.args.steps.now c.loop-step-test.false) c.loop-step.invariant.2;
+  least = subst (AllByRecursion (FitsIn g.N.Cost.CostKind.kind (shown (g.N.Network.meaning c.args.net.now)) c.args.flow.now c.args.prices.now _)) (take_all c.loop-step.step-index c.args.steps.now c.loop-step-test.false) c.loop-step.invariant.2;
 }

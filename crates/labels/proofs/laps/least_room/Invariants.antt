@@ -1,10 +1,10 @@
 use Rattle.networks.specs.Nets.{shown}
 use Rattle.std.proofs.Common.{take, pos, ◌≤ℤ◌}
-use Rattle.std.specs.List.{AllByRecursion as All}
+use Rattle.std.specs.List.{AllByRecursion}
 use Rattle.labels.specs.Ways.{FitsIn}
 use Rattle.labels.proofs.laps.least_room.Given as goal
 
 abbrev pub invariant-loop-step : goal.invariant-loop-step
 invariant-loop-step g l =
     (pos 1 ≤ℤ l.least) × (l.least ≤ℤ pos 2000000) ×
-    All (FitsIn g.N.Cost.CostKind.kind (shown (g.N.Network.meaning l.net)) l.flow l.prices l.least) (take l.step-index l.steps)
+    AllByRecursion (FitsIn g.N.Cost.CostKind.kind (shown (g.N.Network.meaning l.net)) l.flow l.prices l.least) (take l.step-index l.steps)
