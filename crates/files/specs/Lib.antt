@@ -2,3 +2,4 @@ pub mod Faults
 pub mod Kinds
 pub mod Arcs
 pub mod Tables
+pub mod Written

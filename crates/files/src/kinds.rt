@@ -2,7 +2,7 @@
 
 ghost use Rattle.std.specs.Prelude.{◌≡◌, ℕ, ◌≤◌, ℤ};
 ghost use Rattle.files.specs.Kinds.{Tiers, TierLaws, plain_tiers, two_tiers};
-ghost use Rattle.std.proofs.Common.{rules};
+ghost use Rattle.files.specs.Written.{plain_written, two_tier_written};
 
 use costs::{CostKind, Plain, TwoTier};
 
@@ -31,7 +31,7 @@ pub trait FileCost: CostKind {
 impl FileCost for Plain {
     ghost numbers = { plain_tiers };
 
-    ghost written = { Prim.search rules };
+    ghost written = { plain_written };
 
     fn tiers() -> usize {
         1
@@ -53,7 +53,7 @@ impl FileCost for Plain {
 impl FileCost for TwoTier {
     ghost numbers = { two_tiers };
 
-    ghost written = { Prim.search rules };
+    ghost written = { two_tier_written };
 
     fn tiers() -> usize {
         2
