@@ -7,3 +7,4 @@ pub mod Settles
 pub mod Stops
 pub mod Fits
 pub mod Figures
+pub mod Views

@@ -18,6 +18,7 @@ mod steps;
 mod stops;
 mod theorems;
 mod totals;
+mod views;
 
 pub use balances::{imbalance, imbalances};
 pub use figures::{Figure, Verdict, plain_figures, two_tier_figures};
@@ -30,4 +31,5 @@ pub use theorems::{
     cut_shows_none, kept_signs_ease, kilter_is_least, kilter_sum_is_limited, kilter_sum_tells,
     laps_keep_imbalances,
 };
+pub use views::{Seen, View};
 pub use totals::{checked_total, total};
