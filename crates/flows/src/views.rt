@@ -22,7 +22,6 @@ pub struct View<'a, N: Network> {
     pub net: &'a N,
     pub flow: &'a [i32],
     pub prices: &'a [N::Cost],
-    ghost few: { length prices.now ≤ 256 },
     ghost long: { length flow.now ≡ length (shown (N.meaning net.now)) },
     ghost fitting: { Fitting N.Cost.CostKind.kind (length prices.now) (shown (N.meaning net.now)) },
     ghost moderate: { Bounded N.Cost.CostKind.kind price_limit prices.now },

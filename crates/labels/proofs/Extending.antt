@@ -7,12 +7,15 @@ use Rattle.networks.specs.declared.network.Arc.{Arc}
 use Rattle.flows.specs.declared.steps.Step.{Step}
 use Rattle.labels.specs.declared.labelling.Entry.{Entry}
 use Rattle.labels.specs.declared.labelling.Labels.{Labels}
+use Rattle.flows.specs.Kilter.{reduced}
 use Rattle.flows.specs.Laps.{near, far}
+use Rattle.flows.specs.Views.{Sees}
+use Rattle.flows.specs.declared.views.Seen.{Seen}
 use Rattle.flows.proofs.ArcSums.{same_at}
 use Rattle.flows.specs.Fits.{Fit}
-use Rattle.labels.specs.Moves.{may}
-use Rattle.labels.specs.Good.{node_at, place_of, Open, Good, Grown, outward_at, pushed}
-use Rattle.labels.proofs.More.{room, whole_more, grown_more, linked_more}
+use Rattle.labels.specs.Moves.{may, may_at}
+use Rattle.labels.specs.Good.{count, node_at, place_of, Open, Good, Grown, outward_at, pushed}
+use Rattle.labels.proofs.More.{counts, room, whole_more, grown_more, linked_more}
 
 -- the way outward sets out from the node, and leads to one that is not labelled
 pub outward_is : {C : Type 0} (a : Arc C) (n : ℕ) (ls : Labels) (along : Bool) → Some along ≡ outward_at a n ls → (near a along ≡ n) × (place_of ls (far a along) ≡ 0)
@@ -31,6 +34,12 @@ outward_is a n ls along e = go (eqb a.from n) (eqb a.to n) (eqb (place_of ls a.t
     go false true p false ef et ep eq along e = absurd (never along e)
     go false false p q ef et ep eq along e = absurd (never along e)
 
+-- what is seen of an arc may move as the arc does
+pub seen_may : {C : Type 0} (K : Kind C) (arcs : List (Arc C)) (flow : List ℤ) (prices : List C) (i : ℕ) (s : Seen C) (a : Arc C) (along : Bool) → Sees K arcs flow prices i s → s.arc ≡ a → may_at K s.cost s.arc along s.flow ≡ true →
+    may K prices a along (get_or flow i (pos 0)) ≡ true
+seen_may K arcs flow prices i s a along sees same h =
+    subst (λ z. may K prices z along (get_or flow i (pos 0)) ≡ true) same (subst (λ f. may_at K (reduced K prices s.arc) s.arc along f ≡ true) sees.carries (subst (λ z. may_at K z s.arc along s.flow ≡ true) sees.priced h))
+
 -- nothing changed
 pub grown_none : (ls : Labels) → Grown ls ls
 grown_none ls = record { more = omega arith; same = λ k h. refl; kept = λ n h. refl }
@@ -43,7 +52,7 @@ grown_both ls ms ns p q = record {
 }
 
 module _ {C : Type 0} (K : Kind C) (arcs : List (Arc C)) (flow : List ℤ) (prices : List C) (chosen : ℕ) where
-  module _ (few : length prices ≤ 256) (ls : Labels) (good : Good K arcs flow prices chosen ls) (at i : ℕ) (place : at < ls.count) (other : i ≡ chosen → ⊥) (a : Arc C) (is : IsAt arcs i a) (fit : Fit K (length prices) a)
+  module _ (few : length prices ≤ 256) (ls : Labels) (good : Good K arcs flow prices chosen ls) (at i : ℕ) (place : at < count ls) (other : i ≡ chosen → ⊥) (a : Arc C) (is : IsAt arcs i a) (fit : Fit K (length prices) a)
       (along : Bool) (here : near a along ≡ node_at ls at) (fresh : place_of ls (far a along) ≡ 0) (moves : may K prices a along (get_or flow i (pos 0)) ≡ true) where
     step : Step
     step = record { node = node_at ls at; arc = i; along = along }
@@ -61,7 +70,7 @@ module _ {C : Type 0} (K : Kind C) (arcs : List (Arc C)) (flow : List ℤ) (pric
     pub new_high : far a along ≤ 256
     new_high = omega (arith, (ends along).1)
 
-    pub new_room : ls.count < 256
+    pub new_room : count ls < 256
     new_room = room (length prices) few ls good.whole new (ends along).0 (ends along).1 (fresh)
 
     pub new_grown : Grown ls (pushed ls new)
@@ -77,6 +86,6 @@ module _ {C : Type 0} (K : Kind C) (arcs : List (Arc C)) (flow : List ℤ) (pric
     pub new_good : Good K arcs flow prices chosen (pushed ls new)
     new_good = record {
       whole = whole_more (length prices) few ls good.whole new (ends along).0 (ends along).1 (fresh);
-      some = omega arith;
+      some = omega (arith, counts (length prices) few ls good.whole new (ends along).0 (ends along).1 fresh);
       linked = linked_more (length prices) few ls good.whole new (ends along).0 (ends along).1 (fresh) K arcs flow prices chosen good.linked place refl opens;
     }

@@ -1,5 +1,6 @@
 -- Rooms of steps, and flows sent over them.
-use Rattle.std.proofs.Common.{◌≡◌, ℕ, zero, suc, ◌+◌, ◌<◌, ◌≤◌, Bool, true, false, cond, List, [], ◌∷◌, length, get_or, take, drop, set, ℤ, pos, ◌-ℤ◌, nat_abs, ◌≤ℤ◌, sym, refl, ap, ◌∙◌, subst, arith}
+use Rattle.std.proofs.Common.{◌≡◌, ℕ, zero, suc, ◌+◌, ◌<◌, ◌≤◌, Bool, true, false, cond, List, [], ◌∷◌, length, get_or, take, drop, set, ℤ, pos, ◌-ℤ◌, nat_abs, ◌≤ℤ◌, sym, refl, ap, ◌∙◌, subst, arith, is_lt, Less, Greater, Equal, int_cmp}
+use Rattle.std.specs.Ordering.{ord_min}
 use lib.Signed.{lt_z}
 use borrow.Author.Differences.{ints}
 use Rattle.std.specs.List.{AllByRecursion}
@@ -10,6 +11,8 @@ use Rattle.flows.specs.Kilter.{reduced}
 use Rattle.networks.specs.Nets.{IsAt}
 use Rattle.flows.specs.Laps.{sent, moved}
 use Rattle.networks.specs.declared.network.Arc.{Arc}
+use Rattle.flows.specs.Views.{Sees}
+use Rattle.flows.specs.declared.views.Seen.{Seen}
 use Rattle.flows.specs.declared.steps.Step.{Step}
 use Rattle.flows.specs.Fits.{Fit}
 use Rattle.flows.proofs.ArcSums.{same_at}
@@ -29,15 +32,15 @@ limit_small K N c a false f = go (K.le K.zero c)
     go false = f.high
 
 -- the room that was found is that of the arc
-pub room_found : {C : Type 0} (K : Kind C) (arcs : List (Arc C)) (flow : List ℤ) (prices : List C) (s : Step) (a : Arc C) (c : C) (x l : ℤ) → IsAt arcs s.arc a → c ≡ reduced K prices a →
-    l ≡ limit_at K c a s.along → x ≡ cond s.along (l -ℤ get_or flow s.arc (pos 0)) (get_or flow s.arc (pos 0) -ℤ l) → RoomIs K arcs flow prices s x
-room_found K arcs flow prices s a c x l is e p q b bt =
-    subst (λ z. x ≡ room_at K prices z s.along f) (same_at arcs s.arc a b is bt) (q ∙ ap (λ z. cond s.along (z -ℤ f) (f -ℤ z)) (p ∙ ap (λ z. limit_at K z a s.along) e) ∙ go s.along)
+pub room_found : {C : Type 0} (K : Kind C) (arcs : List (Arc C)) (flow : List ℤ) (prices : List C) (s : Step) (e : Seen C) (x l : ℤ) → Sees K arcs flow prices s.arc e →
+    l ≡ limit_at K e.cost e.arc s.along → x ≡ cond s.along (l -ℤ e.flow) (e.flow -ℤ l) → RoomIs K arcs flow prices s x
+room_found K arcs flow prices s e x l sees p q b bt =
+    subst (λ z. x ≡ room_at K prices z s.along f) (same_at arcs s.arc e.arc b sees.there bt) (q ∙ ap (λ z. cond s.along (l -ℤ z) (z -ℤ l)) sees.carries ∙ ap (λ z. cond s.along (z -ℤ f) (f -ℤ z)) (p ∙ ap (λ z. limit_at K z e.arc s.along) sees.priced) ∙ go s.along)
   where
     f : ℤ
     f = get_or flow s.arc (pos 0)
 
-    go : (b : Bool) → cond b (limit_at K (reduced K prices a) a b -ℤ f) (f -ℤ limit_at K (reduced K prices a) a b) ≡ room_at K prices a b f
+    go : (b : Bool) → cond b (limit_at K (reduced K prices e.arc) e.arc b -ℤ f) (f -ℤ limit_at K (reduced K prices e.arc) e.arc b) ≡ room_at K prices e.arc b f
     go true = refl
     go false = refl
 
@@ -60,6 +63,15 @@ lesser_both a b p q = grind (arith, ints)
 
 le_trans : (a b c : ℤ) → a ≤ℤ b → b ≤ℤ c → a ≤ℤ c
 le_trans a b c p q = omega (arith, ints)
+
+-- the lesser of two
+pub min_is : (a b : ℤ) → ord_min int_cmp a b ≡ cond (lt_z b a) b a
+min_is a b = go (lt_z b a) (lt_z a b)
+  where
+    go : (p q : Bool) → cond (is_lt (cond p Less (cond q Greater Equal))) b a ≡ cond p b a
+    go true q = refl
+    go false true = refl
+    go false false = refl
 
 -- one step more
 pub least_more : {C : Type 0} (K : Kind C) (arcs : List (Arc C)) (flow : List ℤ) (prices : List C) (steps : List Step) (i : ℕ) (d : Step) (least x r : ℤ) → i < length steps → length flow ≡ length arcs →

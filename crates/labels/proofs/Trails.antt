@@ -16,7 +16,7 @@ use Rattle.flows.proofs.Lapping.{length_sent}
 use Rattle.flows.proofs.Rooms.{Room, HasRoom, roomy_from_start, lap_better, arc_falls}
 use Rattle.labels.specs.declared.labelling.Labels.{Labels}
 use Rattle.labels.specs.Moves.{limit_at, room_at}
-use Rattle.labels.specs.Good.{node_at, place_of, Good}
+use Rattle.labels.specs.Good.{count, node_at, place_of, Good}
 use Rattle.labels.specs.Ways.{Way, Moving, FitsIn, Steady, Chosen, GoneRound}
 
 -- what has room: at most the limit, which is within the bounds
@@ -88,7 +88,7 @@ module _ {C : Type 0} (K : Kind C) (laws : Laws K) (arcs : List (Arc C)) (flow :
   rooms_from x [] low h = tt
   rooms_from x (s ∷ rest) low (h, hs) = ((λ a is. room_from K laws (length prices) prices arcs a s.along (get_or flow s.arc (pos 0)) x (fitting s.arc a is) low (h a is)), rooms_from x rest low hs)
 
-  module _ (chosen : ℕ) (ls : Labels) (good : Good K arcs flow prices chosen ls) (k : ℕ) (place : k < ls.count) where
+  module _ (chosen : ℕ) (ls : Labels) (good : Good K arcs flow prices chosen ls) (k : ℕ) (place : k < count ls) where
     way_le : (steps : List Step) (j : ℕ) → Way ls j steps k → j ≤ k
     way_le [] j e = omega arith
     way_le (s ∷ rest) j (m, l, h, e, p, w) = let r = way_le rest m w in let q = (good.linked m l h).earlier in omega arith
@@ -102,7 +102,7 @@ module _ {C : Type 0} (K : Kind C) (laws : Laws K) (arcs : List (Arc C)) (flow :
     way_chain (s ∷ rest) j (m, l, h, e, p, w) = (subst₂ (λ y n. Leads arcs y n) e (sym (way_first rest m w)) (good.linked m l h).opens.leads, way_chain rest m w)
 
     -- the nodes of the steps stand at places from j on, and before k
-    way_places : (steps : List Step) (j : ℕ) → j < ls.count → Way ls j steps k → AllByRecursion (λ n. (j < place_of ls n) × (place_of ls n ≤ k)) (map (λ s. s.node) steps)
+    way_places : (steps : List Step) (j : ℕ) → j < count ls → Way ls j steps k → AllByRecursion (λ n. (j < place_of ls n) × (place_of ls n ≤ k)) (map (λ s. s.node) steps)
     way_places [] j c e = tt
     way_places (s ∷ rest) j c (m, l, h, e, p, w) =
         let at : place_of ls s.node ≡ j + 1 = ap (place_of ls) (way_first (s ∷ rest) j (m, l, h, e, p, w)) ∙ good.whole.placed j c in
@@ -114,7 +114,7 @@ module _ {C : Type 0} (K : Kind C) (laws : Laws K) (arcs : List (Arc C)) (flow :
         later [] a = tt
         later (n ∷ ns) (a, more) = let less = (good.linked m l h).earlier in ((omega arith, a.1), later ns more)
 
-    way_apart : (steps : List Step) (j : ℕ) → j < ls.count → Way ls j steps k → Apart (map (λ s. s.node) steps)
+    way_apart : (steps : List Step) (j : ℕ) → j < count ls → Way ls j steps k → Apart (map (λ s. s.node) steps)
     way_apart [] j c e = tt
     way_apart (s ∷ rest) j c (m, l, h, e, p, w) =
         let at : place_of ls s.node ≡ j + 1 = ap (place_of ls) (way_first (s ∷ rest) j (m, l, h, e, p, w)) ∙ good.whole.placed j c in
@@ -137,7 +137,7 @@ module _ {C : Type 0} (K : Kind C) (laws : Laws K) (arcs : List (Arc C)) (flow :
     way_other [] j e = tt
     way_other (s ∷ rest) j (m, l, h, e, p, w) = (subst (λ z. ¬ (z.arc ≡ chosen)) e (good.linked m l h).opens.other, way_other rest m w)
 
-  module _ (s : Step) (ls : Labels) (good : Good K arcs flow prices s.arc ls) (k : ℕ) (place : k < ls.count) (is : node_at ls k ≡ s.node) (rest : List Step) (way : Way ls 0 rest k)
+  module _ (s : Step) (ls : Labels) (good : Good K arcs flow prices s.arc ls) (k : ℕ) (place : k < count ls) (is : node_at ls k ≡ s.node) (rest : List Step) (way : Way ls 0 rest k)
       (long : length flow ≡ length arcs) (small : Small flow) (ch : Chosen K arcs flow prices s (node_at ls 0)) where
     pub all_moving : AllByRecursion (Moving K arcs flow prices) (s ∷ rest)
     all_moving = (ch.moving, way_moving s.arc ls good k place rest 0 way)

@@ -1,5 +1,5 @@
 -- Labellings.
-use Rattle.std.specs.Prelude.{◌≡◌, ℕ, ◌+◌, ◌-◌, ◌<◌, ◌≤◌, Bool, true, false, cond, List, [], ◌∷◌, length, ℤ, pos, Some, None, Option, ◌==◌, slice_index, slice_index_or, slice_set}
+use Rattle.std.specs.Prelude.{◌≡◌, ℕ, ◌+◌, ◌-◌, ◌<◌, ◌≤◌, Bool, true, false, cond, List, [], ◌∷◌, ◌++◌, length, ℤ, pos, Some, None, Option, ◌==◌, slice_index, slice_index_or, slice_set}
 use Rattle.costs.specs.Kinds.{Kind}
 use Rattle.networks.specs.Nets.{IsAt}
 use Rattle.flows.specs.Laps.{Leads}
@@ -12,10 +12,15 @@ use Rattle.labels.specs.Moves.{may}
 abbrev pub no_entry : Entry
 no_entry = record { node = 0; parent = 0; step = record { node = 0; arc = 0; along = false } }
 
--- the k-th labelled node, and the place of a node: from 1 on, or 0
+-- the k-th labelled node
 abbrev pub entry_at : Labels → ℕ → Entry
-entry_at ls k = slice_index_or ls.entries k no_entry
+entry_at ls k = slice_index_or ls.entries.items k no_entry
 
+-- how many nodes are labelled
+abbrev pub count : Labels → ℕ
+count ls = length ls.entries.items
+
+-- it is this node; and the place of a node: from 1 on, or 0
 abbrev pub node_at : Labels → ℕ → ℕ
 node_at ls k = (entry_at ls k).node
 
@@ -45,22 +50,21 @@ pub record Linked {C : Type 0} (K : Kind C) (arcs : List (Arc C)) (flow : List �
 -- places and entries agree
 pub record Whole (N : ℕ) (ls : Labels) : Type 0 where
   pub places_long : length ls.places ≡ 256
-  pub entries_long : length ls.entries ≡ 256
-  pub few : ls.count ≤ 256
-  pub tally : used ls.places ≡ ls.count
-  pub nodes : (k : ℕ) → k < ls.count → (1 ≤ node_at ls k) × (node_at ls k ≤ N)
-  pub placed : (k : ℕ) → k < ls.count → place_of ls (node_at ls k) ≡ k + 1
-  pub holds : (n : ℕ) → 1 ≤ n → Labelled ls n → (place_of ls n ≤ ls.count) × (node_at ls (place_of ls n - 1) ≡ n)
+  pub few : count ls ≤ 256
+  pub tally : used ls.places ≡ count ls
+  pub nodes : (k : ℕ) → k < count ls → (1 ≤ node_at ls k) × (node_at ls k ≤ N)
+  pub placed : (k : ℕ) → k < count ls → place_of ls (node_at ls k) ≡ k + 1
+  pub holds : (n : ℕ) → 1 ≤ n → Labelled ls n → (place_of ls n ≤ count ls) × (node_at ls (place_of ls n - 1) ≡ n)
 
 pub record Good {C : Type 0} (K : Kind C) (arcs : List (Arc C)) (flow : List ℤ) (prices : List C) (chosen : ℕ) (ls : Labels) : Type 0 where
   pub whole : Whole (length prices) ls
-  pub some : 1 ≤ ls.count
-  pub linked : (k : ℕ) → 1 ≤ k → k < ls.count → Linked K arcs flow prices chosen ls k
+  pub some : 1 ≤ count ls
+  pub linked : (k : ℕ) → 1 ≤ k → k < count ls → Linked K arcs flow prices chosen ls k
 
 -- what is labelled stays labelled, at its place
 pub record Grown (ls ms : Labels) : Type 0 where
-  pub more : ls.count ≤ ms.count
-  pub same : (k : ℕ) → k < ls.count → entry_at ms k ≡ entry_at ls k
+  pub more : count ls ≤ count ms
+  pub same : (k : ℕ) → k < count ls → entry_at ms k ≡ entry_at ls k
   pub kept : (n : ℕ) → Labelled ls n → place_of ms n ≡ place_of ls n
 
 -- the way over the arc from the node n to one that is not labelled
@@ -69,10 +73,10 @@ outward_at a n ls = cond (a.from == n) (cond (place_of ls a.to == 0) (Some true)
 
 -- one node more is labelled
 abbrev pub pushed : Labels → Entry → Labels
-pushed ls e = record { places = slice_set ls.places (e.node - 1) (ls.count + 1); entries = slice_set ls.entries ls.count e; count = ls.count + 1 }
+pushed ls e = record { places = slice_set ls.places (e.node - 1) (count ls + 1); entries = record { items = ls.entries.items ++ e ∷ [] } }
 
 -- only the source is labelled
 pub record Begun (source : ℕ) (ls : Labels) : Type 0 where
   pub whole : (N : ℕ) → source ≤ N → N ≤ 256 → Whole N ls
-  pub one : ls.count ≡ 1
+  pub one : count ls ≡ 1
   pub starts : node_at ls 0 ≡ source

@@ -11,16 +11,20 @@ use Rattle.networks.specs.declared.network.Arc.{Arc}
 use Rattle.flows.specs.declared.steps.Step.{Step}
 use Rattle.labels.specs.declared.labelling.Labels.{Labels}
 use Rattle.labels.specs.Moves.{may, room_at}
-use Rattle.labels.specs.Good.{entry_at}
+use Rattle.labels.specs.Good.{count, entry_at}
 
 -- every node but the first was labelled from an earlier one
 abbrev pub Backward : Labels → Type 0
-Backward ls = (k : ℕ) → 1 ≤ k → k < ls.count → (entry_at ls k).parent < k
+Backward ls = (k : ℕ) → 1 ≤ k → k < count ls → (entry_at ls k).parent < k
 
 -- the steps lead from place j to place k, each the step of the place that it leads to
 abbrev pub Way : Labels → ℕ → List Step → ℕ → Type 0
 Way ls j [] k = j ≡ k
-Way ls j (s ∷ rest) k = (m : ℕ) × (1 ≤ m) × (m < ls.count) × ((entry_at ls m).step ≡ s) × ((entry_at ls m).parent ≡ j) × Way ls m rest k
+Way ls j (s ∷ rest) k = (m : ℕ) × (1 ≤ m) × (m < count ls) × ((entry_at ls m).step ≡ s) × ((entry_at ls m).parent ≡ j) × Way ls m rest k
+
+-- the chosen step, and then the steps from the source to place k
+abbrev pub Trail : Labels → Step → ℕ → List Step → Type 0
+Trail ls s k steps = (rest : List Step) × (steps ≡ s ∷ rest) × Way ls 0 rest k
 
 -- x is the room of the step
 abbrev pub RoomIs : {C : Type 0} → Kind C → List (Arc C) → List ℤ → List C → Step → ℤ → Type 0

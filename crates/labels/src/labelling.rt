@@ -1,17 +1,19 @@
 // The labelling: nodes that a change of flow can reach from the source, each with the step that leads to it.
 
-ghost use Rattle.std.specs.Prelude.{◌≡◌, ℕ, ◌<◌, ◌≤◌, false, length, nat_lt};
+ghost use Rattle.std.specs.Prelude.{◌≡◌, ℕ, ◌<◌, ◌≤◌, length, nat_lt};
 ghost use Rattle.networks.specs.Nets.{shown};
-ghost use Rattle.flows.specs.Fits.{Fitting, Bounded, price_limit};
-ghost use Rattle.labels.specs.Good.{Begun, Good, Grown, place_of, pushed, outward_at};
+ghost use Rattle.flows.specs.Flows.{Ends};
+ghost use Rattle.labels.specs.Good.{Begun, Good, Grown, count, entry_at, place_of, pushed, outward_at};
 
+use crate::Aim;
 use crate::moves::{far_end, may};
+use arrayvec::ArrayVec;
 use costs::CostKind;
-use flows::{Step, reduced};
+use flows::Step;
 use networks::{Arc, Network};
 
 // A labelled node: the place of the node it was labelled from, and the step that leads here from there.
-#[derive(Clone, Copy)]
+#[derive(Clone, Copy, Default)]
 pub struct Entry {
     pub node: usize,
     pub parent: usize,
@@ -22,149 +24,129 @@ pub struct Entry {
 #[derive(Drop)]
 pub struct Labels {
     pub places: [usize; 256],
-    pub entries: [Entry; 256],
-    pub count: usize,
+    pub entries: ArrayVec<Entry, 256>,
 }
 
-// Labels one node more.
-pub fn push(labels: &mut Labels, entry: Entry)
-    requires room { labels.old.count < 256 }
-    requires low { 1 ≤ entry.node }
-    requires high { entry.node ≤ 256 }
-    ensures { labels.new ≡ pushed labels.old entry }
-{
-    let at = labels.count;
-    labels.places[entry.node - 1] = at + 1;
-    labels.entries[at] = entry;
-    labels.count = at + 1;
-}
+impl Labels {
+    // A labelling of the source alone.
+    pub fn begin(source: usize) -> Labels
+        requires { (1 ≤ source) × (source ≤ 256) }
+        ensures { Begun source result }
+    {
+        let mut labels = Labels {
+            places: [0; 256],
+            entries: ArrayVec::new(),
+        };
+        labels.push(Entry {
+            node: source,
+            ..Entry::default()
+        });
+        labels
+    }
 
-// A labelling of the source alone.
-pub fn begin(source: usize) -> Labels
-    requires { (1 ≤ source) × (source ≤ 256) }
-    ensures { Begun source result }
-{
-    let step = Step {
-        node: 0,
-        arc: 0,
-        along: false,
-    };
-    let entry = Entry {
-        node: source,
-        parent: 0,
-        step,
-    };
-    let mut labels = Labels {
-        places: [0; 256],
-        entries: [entry; 256],
-        count: 0,
-    };
-    push(&mut labels, entry);
-    labels
+    // The place of a node among the labelled, counted from 1; 0 where it is not labelled.
+    pub fn place(&self, node: usize) -> usize
+        requires { (1 ≤ node) × (node ≤ 256) }
+        ensures { result ≡ place_of self.now node }
+    {
+        self.places[node - 1]
+    }
+
+    // The node at a place, counted from 0.
+    pub fn entry(&self, k: usize) -> Entry
+        requires { k < count self.now }
+        ensures { result ≡ entry_at self.now k }
+    {
+        self.entries[k]
+    }
+
+    // Labels one node more.
+    pub fn push(&mut self, entry: Entry)
+        requires room { count self.old < 256 }
+        requires node { (1 ≤ entry.node) × (entry.node ≤ 256) }
+        ensures { self.new ≡ pushed self.old entry }
+    {
+        self.places[entry.node - 1] = self.entries.len() + 1;
+        self.entries.push(entry);
+    }
 }
 
 // The way over the arc from the node to one that is not labelled.
 fn outward<C: CostKind>(arc: Arc<C>, node: usize, labels: &Labels) -> Option<bool>
-    requires from { (1 ≤ arc.from) × (arc.from ≤ 256) }
-    requires to { (1 ≤ arc.to) × (arc.to ≤ 256) }
+    requires { Ends 256 arc }
     ensures { result ≡ outward_at arc node labels.now }
 {
-    if arc.from == node {
-        if labels.places[arc.to - 1] == 0 {
-            Some(true)
-        } else {
-            None
-        }
-    } else if arc.to == node {
-        if labels.places[arc.from - 1] == 0 {
-            Some(false)
-        } else {
-            None
-        }
+    if arc.from == node && labels.place(arc.to) == 0 {
+        Some(true)
+    } else if arc.from != node && arc.to == node && labels.place(arc.from) == 0 {
+        Some(false)
     } else {
         None
     }
 }
 
-// Labels the far end of the arc after i, from the node at a place, where the arc may move there and the end is not labelled.
-fn extend<N: Network>(
-    net: &N,
-    flow: &[i32],
-    prices: &[N::Cost],
-    chosen: usize,
-    i: usize,
-    at: usize,
-    labels: &mut Labels,
-)
-    requires fitting { Fitting N.Cost.CostKind.kind (length prices.now) (shown (N.meaning net.now)) }
-    requires moderate { Bounded N.Cost.CostKind.kind price_limit prices.now }
-    requires few { length prices.now ≤ 256 }
-    requires long { length flow.now ≡ length (shown (N.meaning net.now)) }
-    requires good { Good N.Cost.CostKind.kind (shown (N.meaning net.now)) flow.now prices.now chosen labels.old }
-    requires arc { i < length flow.now }
-    requires place { at < labels.old.count }
-    ensures good { Good N.Cost.CostKind.kind (shown (N.meaning net.now)) flow.now prices.now chosen labels.new }
+// Labels the far end of the arc at i, from the node at a place, where the arc may move there and the end is not labelled.
+fn extend<N: Network>(aim: &Aim<N>, i: usize, at: usize, labels: &mut Labels)
+    requires good { Good N.Cost.CostKind.kind (shown (N.meaning aim.now.view.net.now)) aim.now.view.flow.now aim.now.view.prices.now aim.now.chosen.arc labels.old }
+    requires arc { i < length aim.now.view.flow.now }
+    requires place { at < count labels.old }
+    ensures good { Good N.Cost.CostKind.kind (shown (N.meaning aim.now.view.net.now)) aim.now.view.flow.now aim.now.view.prices.now aim.now.chosen.arc labels.new }
     ensures grown { Grown labels.old labels.new }
 {
-    if i == chosen {
+    if i == aim.chosen.arc {
         return;
     }
-    let Some(arc) = net.arc(i + 1) else {
-        return;
-    };
-    let node = labels.entries[at].node;
+    let arc = aim.view.arc(i);
+    let node = labels.entry(at).node;
     let Some(along) = outward(arc, node, labels) else {
         return;
     };
-    if !may(arc, reduced(arc, prices), along, flow[i]) {
-        return;
-    }
-    let far = far_end(arc, along);
-    let step = Step {
-        node,
-        arc: i,
-        along,
-    };
-    push(
-        labels,
-        Entry {
-            node: far,
+    if may(aim.view.see(i, arc), along) {
+        labels.push(Entry {
+            node: far_end(arc, along),
             parent: at,
-            step,
-        },
-    );
+            step: Step {
+                node,
+                arc: i,
+                along,
+            },
+        });
+    }
 }
 
-// Labels what can be reached from the nodes labelled from a place on, but not over the chosen arc, until the sought node is labelled.
-pub fn label<N: Network>(
-    net: &N,
-    flow: &[i32],
-    prices: &[N::Cost],
-    chosen: usize,
-    sought: usize,
-    start: usize,
-    labels: &mut Labels,
-) -> bool
-    requires fitting { Fitting N.Cost.CostKind.kind (length prices.now) (shown (N.meaning net.now)) }
-    requires moderate { Bounded N.Cost.CostKind.kind price_limit prices.now }
-    requires few { length prices.now ≤ 256 }
-    requires long { length flow.now ≡ length (shown (N.meaning net.now)) }
-    requires good { Good N.Cost.CostKind.kind (shown (N.meaning net.now)) flow.now prices.now chosen labels.old }
-    requires node { (1 ≤ sought) × (sought ≤ length prices.now) }
-    ensures good { Good N.Cost.CostKind.kind (shown (N.meaning net.now)) flow.now prices.now chosen labels.new }
+// Labels what one arc leads to from the node at a place, arc after arc, until the sought node is labelled; says whether it is.
+fn spread<N: Network>(aim: &Aim<N>, at: usize, labels: &mut Labels) -> bool
+    requires good { Good N.Cost.CostKind.kind (shown (N.meaning aim.now.view.net.now)) aim.now.view.flow.now aim.now.view.prices.now aim.now.chosen.arc labels.old }
+    requires node { (1 ≤ aim.now.chosen.node) × (aim.now.chosen.node ≤ 256) }
+    requires place { at < count labels.old }
+    ensures good { Good N.Cost.CostKind.kind (shown (N.meaning aim.now.view.net.now)) aim.now.view.flow.now aim.now.view.prices.now aim.now.chosen.arc labels.new }
     ensures grown { Grown labels.old labels.new }
-    ensures found { result ≡ nat_lt 0 (place_of labels.new sought) }
+    ensures found { result ≡ nat_lt 0 (place_of labels.new aim.now.chosen.node) }
 {
-    let arcs = net.arcs();
+    for i in 0..aim.view.flow.len() {
+        if labels.place(aim.chosen.node) > 0 {
+            break;
+        }
+        extend(aim, i, at, labels);
+    }
+    labels.place(aim.chosen.node) > 0
+}
+
+// Labels what can be reached from the nodes labelled from a place on, but not over the chosen arc, until the node that its step sets out from is labelled.
+pub fn label<N: Network>(aim: &Aim<N>, start: usize, labels: &mut Labels) -> bool
+    requires good { Good N.Cost.CostKind.kind (shown (N.meaning aim.now.view.net.now)) aim.now.view.flow.now aim.now.view.prices.now aim.now.chosen.arc labels.old }
+    requires node { (1 ≤ aim.now.chosen.node) × (aim.now.chosen.node ≤ length aim.now.view.prices.now) }
+    ensures good { Good N.Cost.CostKind.kind (shown (N.meaning aim.now.view.net.now)) aim.now.view.flow.now aim.now.view.prices.now aim.now.chosen.arc labels.new }
+    ensures grown { Grown labels.old labels.new }
+    ensures found { result ≡ nat_lt 0 (place_of labels.new aim.now.chosen.node) }
+{
     let mut at = start;
-    'labelling: while at < labels.count {
-        for i in 0..arcs {
-            extend(net, flow, prices, chosen, i, at, labels);
-            if labels.places[sought - 1] > 0 {
-                break 'labelling;
-            }
+    // The list grows while it is gone through.
+    while at < labels.entries.len() {
+        if spread(aim, at, labels) {
+            return true;
         }
         at += 1;
     }
-    labels.places[sought - 1] > 0
+    labels.place(aim.chosen.node) > 0
 }

@@ -1,38 +1,36 @@
 // One lap: back by the labels from the sought node to the source, and over the chosen arc.
 
-ghost use Rattle.std.specs.Prelude.{◌≡◌, ℕ, ◌+◌, ◌<◌, ◌≤◌, List, ◌∷◌, length, drop, ℤ, pos, ◌-ℤ◌, ◌≤ℤ◌, if◌then◌else◌, int_lt, slice_set, unsigned_abs};
+ghost use Rattle.std.specs.Prelude.{◌≡◌, ℕ, ◌<◌, ◌≤◌, length, ℤ, pos, ◌-ℤ◌, ◌≤ℤ◌, if◌then◌else◌, slice_set, unsigned_abs};
 ghost use Rattle.std.specs.List.{AllByRecursion};
 ghost use Rattle.networks.specs.Nets.{shown};
 ghost use Rattle.flows.specs.Fits.{Fitting, Small, Bounded, price_limit};
 ghost use Rattle.flows.specs.Laps.{moved, sent};
-ghost use Rattle.labels.specs.Good.{Good, Labelled, node_at};
-ghost use Rattle.labels.specs.Ways.{Backward, Way, RoomIs, Moving, FitsIn, Steady, Chosen, GoneRound};
+ghost use Rattle.labels.specs.Good.{Good, Labelled, count, node_at};
+ghost use Rattle.labels.specs.Ways.{Backward, Trail, RoomIs, Moving, FitsIn, Steady, Chosen, GoneRound};
 
 use crate::labelling::Labels;
 use crate::moves::limit;
-use flows::{Step, reduced};
+use arrayvec::ArrayVec;
+use flows::{Step, View};
 use networks::Network;
 
-// Writes the steps from the source to a place at the end of `steps`, and the chosen step before them; says where that stands.
-fn trace(labels: &Labels, place: usize, chosen: Step, steps: &mut [Step; 256]) -> usize
+// The chosen step, and then the steps from the source to the node at a place.
+fn trace(labels: &Labels, place: usize, chosen: Step) -> ArrayVec<Step, 256>
     requires back { Backward labels.now }
-    requires few { labels.now.count ≤ 256 }
-    requires place { place < labels.now.count }
-    ensures start { result < 256 }
-    ensures first { drop result steps.new ≡ chosen ∷ drop (result + 1) steps.new }
-    ensures rest { Way labels.now 0 (drop (result + 1) steps.new) place }
+    requires few { count labels.now ≤ 256 }
+    requires place { place < count labels.now }
+    ensures { Trail labels.now chosen place result.items }
 {
+    let mut steps = ArrayVec::new();
     let mut k = place;
-    let mut j = 256;
     while k > 0 {
-        let entry = labels.entries[k];
-        j -= 1;
-        steps[j] = entry.step;
+        let entry = labels.entry(k);
+        steps.push(entry.step);
         k = entry.parent;
     }
-    j -= 1;
-    steps[j] = chosen;
-    j
+    steps.push(chosen);
+    steps.as_mut_slice().reverse();
+    steps
 }
 
 // What is left from f up to the limit, or down to it.
@@ -45,41 +43,26 @@ fn span(limit: i32, f: i32, along: bool) -> i32
 }
 
 // By how much the step's arc may be moved that way.
-fn room<N: Network>(net: &N, flow: &[i32], prices: &[N::Cost], step: Step) -> i32
-    requires fitting { Fitting N.Cost.CostKind.kind (length prices.now) (shown (N.meaning net.now)) }
-    requires moderate { Bounded N.Cost.CostKind.kind price_limit prices.now }
-    requires long { length flow.now ≡ length (shown (N.meaning net.now)) }
-    requires small { Small flow.now }
-    requires arc { step.arc < length flow.now }
-    ensures { RoomIs N.Cost.CostKind.kind (shown (N.meaning net.now)) flow.now prices.now step result }
+fn room<N: Network>(view: &View<N>, step: Step) -> i32
+    requires small { Small view.now.flow.now }
+    requires arc { step.arc < length view.now.flow.now }
+    ensures { RoomIs N.Cost.CostKind.kind (shown (N.meaning view.now.net.now)) view.now.flow.now view.now.prices.now step result }
 {
-    let Some(arc) = net.arc(step.arc + 1) else {
-        return 0;
-    };
-    let c = reduced(arc, prices);
-    span(limit(arc, c, step.along), flow[step.arc], step.along)
-}
-
-fn lesser(a: i32, b: i32) -> i32
-    ensures { result ≡ (if int_lt b a then b else a) }
-{
-    if b < a { b } else { a }
+    let seen = view.see(step.arc, view.arc(step.arc));
+    span(limit(seen, step.along), seen.flow, step.along)
 }
 
 // The least room over the steps.
-fn least_room<N: Network>(net: &N, flow: &[i32], prices: &[N::Cost], steps: &[Step]) -> i32
-    requires fitting { Fitting N.Cost.CostKind.kind (length prices.now) (shown (N.meaning net.now)) }
-    requires moderate { Bounded N.Cost.CostKind.kind price_limit prices.now }
-    requires long { length flow.now ≡ length (shown (N.meaning net.now)) }
-    requires small { Small flow.now }
-    requires moving { AllByRecursion (Moving N.Cost.CostKind.kind (shown (N.meaning net.now)) flow.now prices.now) steps.now }
+fn least_room<N: Network>(view: &View<N>, steps: &[Step]) -> i32
+    requires small { Small view.now.flow.now }
+    requires moving { AllByRecursion (Moving N.Cost.CostKind.kind (shown (N.meaning view.now.net.now)) view.now.flow.now view.now.prices.now) steps.now }
     ensures low { pos 1 ≤ℤ result }
     ensures high { result ≤ℤ pos 2000000 }
-    ensures least { AllByRecursion (FitsIn N.Cost.CostKind.kind (shown (N.meaning net.now)) flow.now prices.now result) steps.now }
+    ensures least { AllByRecursion (FitsIn N.Cost.CostKind.kind (shown (N.meaning view.now.net.now)) view.now.flow.now view.now.prices.now result) steps.now }
 {
     let mut least = 2_000_000;
     for step in steps {
-        least = lesser(least, room(net, flow, prices, *step));
+        least = least.min(room(view, *step));
     }
     least
 }
@@ -116,9 +99,7 @@ pub fn lap<N: Network>(net: &N, flow: &mut [i32], prices: &[N::Cost], chosen: St
     requires chosen { Chosen N.Cost.CostKind.kind (shown (N.meaning net.now)) flow.old prices.now chosen (node_at labels.now 0) }
     ensures { GoneRound N.Cost.CostKind.kind (shown (N.meaning net.now)) prices.now flow.old flow.new }
 {
-    let mut steps = [chosen; 256];
-    let place = labels.places[chosen.node - 1] - 1;
-    let start = trace(labels, place, chosen, &mut steps);
-    let amount = least_room(net, flow, prices, &steps[start..]);
-    send(flow, &steps[start..], amount);
+    let steps = trace(labels, labels.place(chosen.node) - 1, chosen);
+    let amount = least_room(&View { net, flow, prices }, steps.as_slice());
+    send(flow, steps.as_slice(), amount);
 }

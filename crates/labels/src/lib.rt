@@ -5,10 +5,12 @@
 // there is room for.
 #![tactic(auto)]
 
+mod aims;
 mod labelling;
 mod laps;
 mod moves;
 
-pub use labelling::{Entry, Labels, begin, label, push};
+pub use aims::Aim;
+pub use labelling::{Entry, Labels, label};
 pub use laps::lap;
 pub use moves::{far_end, may};

@@ -5,29 +5,35 @@ ghost use Rattle.flows.specs.Laps.{far};
 ghost use Rattle.labels.specs.Moves.{limit_at, may_at};
 
 use costs::CostKind;
+use flows::Seen;
 use networks::Arc;
 
-// How far an arc of reduced cost c is moved at most, along or against.
-pub fn limit<C: CostKind>(arc: Arc<C>, c: C, along: bool) -> i32
-    ensures { result ≡ limit_at C.CostKind.kind c arc along }
+// How far an arc is moved at most, along or against.
+pub fn limit<C: CostKind>(seen: Seen<C>, along: bool) -> i32
+    ensures { result ≡ limit_at C.CostKind.kind seen.cost seen.arc along }
 {
+    let Seen { arc, cost, .. } = seen;
     if along {
-        if c.at_most(C::zero()) { arc.hi } else { arc.lo }
-    } else if C::zero().at_most(c) {
+        if cost.at_most(C::zero()) {
+            arc.hi
+        } else {
+            arc.lo
+        }
+    } else if C::zero().at_most(cost) {
         arc.lo
     } else {
         arc.hi
     }
 }
 
-// Whether an arc that carries f may be moved that way: it is short of its limit.
-pub fn may<C: CostKind>(arc: Arc<C>, c: C, along: bool, f: i32) -> bool
-    ensures { result ≡ may_at C.CostKind.kind c arc along f }
+// Whether an arc may be moved that way: it is short of its limit.
+pub fn may<C: CostKind>(seen: Seen<C>, along: bool) -> bool
+    ensures { result ≡ may_at C.CostKind.kind seen.cost seen.arc along seen.flow }
 {
     if along {
-        f < limit(arc, c, true)
+        seen.flow < limit(seen, true)
     } else {
-        limit(arc, c, false) < f
+        limit(seen, false) < seen.flow
     }
 }
 

@@ -7,4 +7,4 @@ use Rattle.labels.proofs.laps.least_room.Given as goal
 abbrev pub invariant-loop-step : goal.invariant-loop-step
 invariant-loop-step g l =
     (pos 1 ≤ℤ l.least) × (l.least ≤ℤ pos 2000000) ×
-    AllByRecursion (FitsIn g.N.Cost.CostKind.kind (shown (g.N.Network.meaning l.net)) l.flow l.prices l.least) (take l.step-index l.steps)
+    AllByRecursion (FitsIn g.N.Cost.CostKind.kind (shown (g.N.Network.meaning l.view.net.now)) l.view.flow.now l.view.prices.now l.least) (take l.step-index l.steps)

@@ -1,40 +1,16 @@
-use Rattle.std.proofs.Common.{◌≡◌, ◌+◌, ◌-◌, ◌<◌, ◌∷◌, length, drop, sym, refl, ap, ◌∙◌, subst, arith, length-set}
-use Rattle.std.proofs.lemmas.List.{drop_all, drop-set, drop-set-lt}
+use Rattle.std.proofs.Common.{◌≡◌, ℕ, List, [], ◌∷◌, ◌++◌, length, take, ap, ◌∙◌, subst, refl, arith}
+use Rattle.std.proofs.lemmas.List.{reverse-append, take_all, drop_all, append-nil}
+use Rattle.std.specs.Prelude.{reverse}
+use Rattle.std.specs.List.{refill}
 use Rattle.labels.specs.Ways.{Way}
-use Rattle.labels.specs.Good.{entry_at}
 use Rattle.labels.proofs.laps.trace.Goals as goal
 
-pub loop-k-init : goal.loop-k-init
-loop-k-init c =
-    let long : length c.args.steps.now ≡ 256 = omega arith in
-    (c.requires.place, omega (arith, c.requires.few), omega arith, long, subst (λ z. Way c.args.labels.now c.args.place z c.args.place) (sym (drop_all 256 c.args.steps.now (omega arith))) refl)
-
-pub loop-k-preserved : goal.loop-k-preserved
-loop-k-preserved c =
-    let ls = c.args.labels.now in
-    let k = c.loop-k.k in
-    let j = c.loop-k.j in
-    let e = entry_at ls k in
-    let less : e.parent < k = c.requires.back k (omega arith) c.loop-k.invariant.0 in
-    let next : j - 1 + 1 ≡ j = omega (arith, c.loop-k.invariant.1) in
-    let spot : j - 1 < length c.loop-k.steps = omega (arith, c.loop-k.invariant.1, c.loop-k.invariant.2, c.loop-k.invariant.3) in (
-      omega (arith, c.loop-k.invariant.0),
-      omega (arith, c.loop-k.invariant.1),
-      omega (arith, c.loop-k.invariant.2),
-      length-set c.loop-k.steps (j - 1) e.step ∙ c.loop-k.invariant.3,
-      subst (λ z. Way ls e.parent z c.args.place) (sym (drop-set c.loop-k.steps (j - 1) e.step spot))
-          (k, omega arith, c.loop-k.invariant.0, refl, refl, subst (λ z. Way ls k (drop z c.loop-k.steps) c.args.place) (sym next) c.loop-k.invariant.4),
-    )
+refill_whole : {X : Type 0} (n : ℕ) (xs ws : List X) → n ≡ length xs → length ws ≡ length xs → refill n xs ws ≡ ws
+refill_whole n xs ws e l = ap (λ z. take n (ws ++ z)) (drop_all (length ws) xs (omega arith)) ∙ ap (take n) (append-nil ws) ∙ take_all n ws (omega arith)
 
 pub returns : goal.returns
 returns c =
-    let j = c.loop-k.j in
-    let next : j - 1 + 1 ≡ j = omega (arith, c.loop-k.invariant.1) in
-    let spot : j - 1 < length c.loop-k.steps = omega (arith, c.loop-k.invariant.1, c.loop-k.invariant.2, c.loop-k.invariant.3) in
+    let p = c.push-2.new.self.items in
     let zero : c.loop-k.k ≡ 0 = omega arith in
-    let same = drop-set-lt (j - 1 + 1) c.loop-k.steps (j - 1) c.args.chosen (omega arith) in
-    record {
-      start = omega (arith, c.loop-k.invariant.1, c.loop-k.invariant.2);
-      first = drop-set c.loop-k.steps (j - 1) c.args.chosen spot ∙ ap (λ z. c.args.chosen ∷ z) (sym same);
-      rest = subst (λ z. Way c.args.labels.now 0 z c.args.place) (sym (same ∙ ap (λ z. drop z c.loop-k.steps) next)) (subst (λ z. Way c.args.labels.now z (drop j c.loop-k.steps) c.args.place) zero c.loop-k.invariant.4);
-    }
+    let e : c.reverse.new.self ≡ c.args.chosen ∷ reverse c.loop-k.steps.items = c.reverse.ensures.after ∙ ap reverse (c.as_mut_slice.ensures.value ∙ c.push-2.ensures.items) ∙ reverse-append c.loop-k.steps.items (c.args.chosen ∷ []) in
+    (reverse c.loop-k.steps.items, refill_whole (length p) p c.reverse.new.self refl (c.reverse.ensures.len ∙ ap length c.as_mut_slice.ensures.value) ∙ e, subst (λ z. Way c.args.labels.now z (reverse c.loop-k.steps.items) c.args.place) zero c.loop-k.invariant.2)
