@@ -18,10 +18,7 @@ fn multiple<C: CostKind>(cost: C, f: i32) -> C
     ensures value { result ≡ C.CostKind.kind.times f cost }
     ensures small { C.CostKind.kind.size result ≤ 1000000000000 }
 {
-    match cost.times(f) {
-        Some(c) => c,
-        None => cost,
-    }
+    cost.times(f).unwrap_or(cost)
 }
 
 // The sum of cost times flow.
