@@ -9,6 +9,7 @@
 // Not promised here: how a least flow is found.
 #![tactic(auto)]
 
+mod arcs;
 mod balances;
 mod figures;
 mod kilter;
@@ -19,6 +20,7 @@ mod stops;
 mod theorems;
 mod totals;
 
+pub use arcs::{Arcs, arcs_of};
 pub use balances::{imbalance, imbalances};
 pub use figures::{Figure, Verdict, plain_figures, two_tier_figures};
 pub use kilter::amiss;
