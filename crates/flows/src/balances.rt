@@ -5,6 +5,7 @@ ghost use Rattle.networks.specs.Nets.{shown};
 ghost use Rattle.flows.specs.Fits.{Small};
 ghost use Rattle.flows.specs.Flows.{imbalance as imbalance_of, imbalances_from};
 
+use crate::arcs::arcs_of;
 use networks::Network;
 
 // What leaves a node less what enters it.
@@ -14,12 +15,8 @@ pub fn imbalance<N: Network>(net: &N, flow: &[i32], node: usize) -> i64
     ensures { result ≡ imbalance_of (shown (N.meaning net.now)) flow.now node }
 {
     let mut sum: i64 = 0;
-    for i in 0..flow.len() {
-        let Some(arc) = net.arc(i + 1) else {
-            return sum;
-        };
-        let f = flow[i];
-        sum = balanced(sum, part(arc.from, node, f), part(arc.to, node, f));
+    for (arc, f) in arcs_of(net).zip(flow) {
+        sum = balanced(sum, part(arc.from, node, *f), part(arc.to, node, *f));
     }
     sum
 }
@@ -60,7 +57,7 @@ pub fn imbalances<N: Network>(net: &N, flow: &[i32], needs: &mut [i32])
     requires small { Small flow.now }
     ensures { needs.new ≡ imbalances_from 1 (length needs.old) (shown (N.meaning net.now)) flow.now }
 {
-    for i in 0..needs.len() {
-        needs[i] = need(net, flow, i + 1);
+    for (i, written) in needs.iter_mut().enumerate() {
+        *written = need(net, flow, i + 1);
     }
 }

@@ -6,6 +6,7 @@ ghost use Rattle.networks.specs.Answers.{refusal};
 ghost use Rattle.networks.specs.Nets.{shown};
 ghost use Rattle.flows.specs.Stops.{counts_fit, stop_unless, arc_stop, arcs_stop, needs_stop, first_stop as first_stop_of, open_stop as open_stop_of, take_up_stop as take_up_stop_of};
 
+use crate::arcs::arcs_of;
 use crate::balances::imbalance;
 use costs::CostKind;
 use networks::{Arc, Bounds, Network, Stop};
@@ -49,11 +50,8 @@ fn arcs_fault<N: Network>(net: &N, flow: &[i32]) -> Result<(), Stop>
     ensures { refusal result ≡ arcs_stop N.Cost.CostKind.kind.size (N.meaning net.now).nodes 1 (shown (N.meaning net.now)) flow.now }
 {
     let nodes = net.nodes();
-    for i in 0..flow.len() {
-        let Some(arc) = net.arc(i + 1) else {
-            return Ok(());
-        };
-        arc_fault(nodes, i + 1, arc, flow[i])?;
+    for (i, (arc, f)) in arcs_of(net).zip(flow).enumerate() {
+        arc_fault(nodes, i + 1, arc, *f)?;
     }
     Ok(())
 }
@@ -71,8 +69,8 @@ fn needs_fault<N: Network>(net: &N, flow: &[i32], needs: &[i32]) -> Result<(), S
     requires long { length flow.now ≡ length (N.meaning net.now).arcs }
     ensures { refusal result ≡ needs_stop (shown (N.meaning net.now)) flow.now 1 needs.now }
 {
-    for i in 0..needs.len() {
-        if !meets(imbalance(net, flow, i + 1), needs[i]) {
+    for (i, need) in needs.iter().enumerate() {
+        if !meets(imbalance(net, flow, i + 1), *need) {
             return Err(Stop::Imbalance(i + 1));
         }
     }

@@ -7,6 +7,7 @@ ghost use Rattle.networks.specs.Nets.{shown};
 ghost use Rattle.flows.specs.Fits.{Fitting, Small};
 ghost use Rattle.flows.specs.Flows.{added as added_to, running_total, total as total_of};
 
+use crate::arcs::arcs_of;
 use crate::pricing::sum;
 use costs::CostKind;
 use networks::Network;
@@ -30,11 +31,8 @@ pub fn total<N: Network>(net: &N, flow: &[i32]) -> N::Cost
     ensures { result ≡ total_of (sums N.Cost.CostKind.kind) (shown (N.meaning net.now)) flow.now }
 {
     let mut all = N::Cost::zero();
-    for i in 0..flow.len() {
-        let Some(arc) = net.arc(i + 1) else {
-            return all;
-        };
-        all = sum(all, multiple(arc.cost, flow[i]));
+    for (arc, f) in arcs_of(net).zip(flow) {
+        all = sum(all, multiple(arc.cost, *f));
     }
     all
 }
@@ -54,11 +52,8 @@ pub fn checked_total<N: Network>(net: &N, flow: &[i32]) -> Option<N::Cost>
     ensures within { length flow.now ≤ most_arcs → Fitting N.Cost.CostKind.kind (N.meaning net.now).nodes (shown (N.meaning net.now)) → Small flow.now → result ≡ Some (total_of (sums N.Cost.CostKind.kind) (shown (N.meaning net.now)) flow.now) }
 {
     let mut all = N::Cost::zero();
-    for i in 0..flow.len() {
-        let Some(arc) = net.arc(i + 1) else {
-            return Some(all);
-        };
-        all = added(all, arc.cost, flow[i])?;
+    for (arc, f) in arcs_of(net).zip(flow) {
+        all = added(all, arc.cost, *f)?;
     }
     Some(all)
 }

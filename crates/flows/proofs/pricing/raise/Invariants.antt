@@ -1,4 +1,4 @@
-use Rattle.std.proofs.Common.{◌≡◌, ℕ, ◌<◌, ◌≤◌, Bool, length, get_or}
+use Rattle.std.proofs.Common.{◌≡◌, ℕ, ◌≤◌, Bool, get_or}
 use Rattle.flows.specs.Prices.{Tells, Raised}
 use Rattle.flows.proofs.pricing.raise.Given as goal
 
