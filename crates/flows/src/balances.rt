@@ -11,7 +11,6 @@ use networks::Network;
 // What leaves a node less what enters it.
 pub fn imbalance<N: Network>(net: &N, flow: &[i32], node: usize) -> i64
     requires few { length flow.now ≤ 1024 }
-    requires long { length flow.now ≡ length (N.meaning net.now).arcs }
     ensures { result ≡ imbalance_of (shown (N.meaning net.now)) flow.now node }
 {
     let mut sum: i64 = 0;
@@ -43,7 +42,6 @@ fn balanced(sum: i64, leaves: i64, enters: i64) -> i64
 // The imbalance of a node where no flow is beyond the limits, as a need.
 fn need<N: Network>(net: &N, flow: &[i32], node: usize) -> i32
     requires few { length flow.now ≤ 1024 }
-    requires long { length flow.now ≡ length (N.meaning net.now).arcs }
     requires small { Small flow.now }
     ensures { result ≡ imbalance_of (shown (N.meaning net.now)) flow.now node }
 {
@@ -53,7 +51,6 @@ fn need<N: Network>(net: &N, flow: &[i32], node: usize) -> i32
 // Writes the imbalance of node k + 1 at place k.
 pub fn imbalances<N: Network>(net: &N, flow: &[i32], needs: &mut [i32])
     requires few { length flow.now ≤ 1024 }
-    requires long { length flow.now ≡ length (N.meaning net.now).arcs }
     requires small { Small flow.now }
     ensures { needs.new ≡ imbalances_from 1 (length needs.old) (shown (N.meaning net.now)) flow.now }
 {

@@ -46,7 +46,6 @@ fn arc_fault<C: CostKind>(nodes: usize, a: usize, arc: Arc<C>, f: i32) -> Result
 
 // The first fault of the arcs in turn.
 fn arcs_fault<N: Network>(net: &N, flow: &[i32]) -> Result<(), Stop>
-    requires long { length flow.now ≡ length (N.meaning net.now).arcs }
     ensures { refusal result ≡ arcs_stop N.Cost.CostKind.kind.size (N.meaning net.now).nodes 1 (shown (N.meaning net.now)) flow.now }
 {
     let nodes = net.nodes();
@@ -66,7 +65,6 @@ fn meets(balance: i64, need: i32) -> bool
 // The first node whose imbalance differs from its need.
 fn needs_fault<N: Network>(net: &N, flow: &[i32], needs: &[i32]) -> Result<(), Stop>
     requires few { length flow.now ≤ 1024 }
-    requires long { length flow.now ≡ length (N.meaning net.now).arcs }
     ensures { refusal result ≡ needs_stop (shown (N.meaning net.now)) flow.now 1 needs.now }
 {
     for (i, need) in needs.iter().enumerate() {

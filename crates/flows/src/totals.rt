@@ -25,7 +25,6 @@ fn multiple<C: CostKind>(cost: C, f: i32) -> C
 // The sum of cost times flow.
 pub fn total<N: Network>(net: &N, flow: &[i32]) -> N::Cost
     requires few { length flow.now ≤ 1024 }
-    requires long { length flow.now ≡ length (N.meaning net.now).arcs }
     requires fitting { Fitting N.Cost.CostKind.kind (N.meaning net.now).nodes (shown (N.meaning net.now)) }
     requires small { Small flow.now }
     ensures { result ≡ total_of (sums N.Cost.CostKind.kind) (shown (N.meaning net.now)) flow.now }
