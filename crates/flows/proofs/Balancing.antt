@@ -1,30 +1,25 @@
 -- One arc more of an imbalance.
-use Rattle.std.proofs.Common.{◌≡◌, ℕ, suc, ◌+◌, ◌*◌, ◌≤◌, Bool, true, false, cond, eqb, List, [], ◌∷◌, length, drop, ℤ, pos, negsuc, ◌+ℤ◌, ◌-ℤ◌, nat_abs, sym, ap, ◌∙◌, ap₂, arith, w32, SFits}
+use Rattle.std.proofs.Common.{◌≡◌, ℕ, suc, ◌+◌, ◌*◌, ◌≤◌, ◌⊎◌, Bool, true, false, cond, eqb, List, [], ◌∷◌, length, ℤ, pos, negsuc, ◌+ℤ◌, ◌-ℤ◌, nat_abs, sym, ◌∙◌, ap₂, arith, w32, SFits}
 use Rattle.std.proofs.lemmas.Int.{ints}
 use Rattle.networks.specs.declared.network.Arc.{Arc}
 use Rattle.networks.specs.Limits.{flow_limit}
 use Rattle.flows.specs.Flows.{imbalance, leaving, entering, sum_arcs}
 use Rattle.flows.specs.Fits.{Small}
+use Rattle.flows.proofs.Turns.{over_none}
 
 joined : (s x y p q r : ℤ) → r ≡ s +ℤ (x -ℤ y) → s +ℤ ((x +ℤ p) -ℤ (y +ℤ q)) ≡ r +ℤ (p -ℤ q)
 joined s x y p q r e = omega (arith, ints)
 
--- s is what the arcs before come to, u and w what arc x carries away from the node and to it
-pub balance_more : {C : Type 0} (i node : ℕ) (arcs : List (Arc C)) (flow : List ℤ) (x : Arc C) (f s r u w : ℤ) → drop i arcs ≡ x ∷ drop (i + 1) arcs → drop i flow ≡ f ∷ drop (i + 1) flow →
-    r ≡ s +ℤ (u -ℤ w) → u ≡ leaving node x f → w ≡ entering node x f → r +ℤ imbalance (drop (i + 1) arcs) (drop (i + 1) flow) node ≡ s +ℤ imbalance (drop i arcs) (drop i flow) node
-balance_more i node arcs flow x f s r u w p q e a b =
-    sym (ap₂ (λ xs fs. s +ℤ imbalance xs fs node) p q ∙
-    joined s (leaving node x f) (entering node x f) (sum_arcs (leaving node) (drop (i + 1) arcs) (drop (i + 1) flow)) (sum_arcs (entering node) (drop (i + 1) arcs) (drop (i + 1) flow)) r (e ∙ ap₂ (λ y z. s +ℤ (y -ℤ z)) a b))
+-- s is what the arcs before come to, u and w what the next arc x carries away from the node and to it
+pub balance_more : {C : Type 0} (node : ℕ) {arcs rest : List (Arc C)} {flow fs : List ℤ} (x : Arc C) (f s r u w : ℤ) → arcs ≡ x ∷ rest → flow ≡ f ∷ fs →
+    r ≡ s +ℤ (u -ℤ w) → u ≡ leaving node x f → w ≡ entering node x f → r +ℤ imbalance rest fs node ≡ s +ℤ imbalance arcs flow node
+balance_more node {rest = rest} {fs = fs} x f s r u w p q e a b =
+    sym (ap₂ (λ xs ys. s +ℤ imbalance xs ys node) p q ∙
+    joined s (leaving node x f) (entering node x f) (sum_arcs (leaving node) rest fs) (sum_arcs (entering node) rest fs) r (e ∙ ap₂ (λ y z. s +ℤ (y -ℤ z)) a b))
 
-pub balance_all : {C : Type 0} (node : ℕ) (arcs : List (Arc C)) (flow : List ℤ) (s : ℤ) → flow ≡ [] → s +ℤ imbalance arcs flow node ≡ s
-balance_all {C} node arcs flow s e = ap (λ fs. s +ℤ imbalance arcs fs node) e ∙ none arcs
-  where
-    none : (xs : List (Arc C)) → s +ℤ imbalance xs [] node ≡ s
-    none [] = omega (arith, ints)
-    none (x ∷ xs) = omega (arith, ints)
-
-pub balance_start : (s : ℤ) → pos 0 +ℤ s ≡ s
-balance_start s = omega (arith, ints)
+pub balance_all : {C : Type 0} (node : ℕ) (arcs : List (Arc C)) (flow : List ℤ) (s : ℤ) → (arcs ≡ []) ⊎ (length flow ≡ 0) → s +ℤ imbalance arcs flow node ≡ s
+balance_all node arcs flow s e =
+    ap₂ (λ y z. s +ℤ (y -ℤ z)) (over_none (pos 0) ◌+ℤ◌ (leaving node) arcs flow e) (over_none (pos 0) ◌+ℤ◌ (entering node) arcs flow e) ∙ omega (arith, ints)
 
 -- one arc carries at most its flow past a node
 one_carries : (b c : Bool) (f x y : ℤ) → nat_abs ((cond b f (pos 0) +ℤ x) -ℤ (cond c f (pos 0) +ℤ y)) ≤ nat_abs f + nat_abs (x -ℤ y)

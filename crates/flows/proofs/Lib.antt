@@ -21,3 +21,4 @@ pub mod Shifts
 pub mod Written
 pub mod Tested
 pub mod RunningTotals
+pub mod Turns

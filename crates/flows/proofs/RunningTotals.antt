@@ -1,33 +1,20 @@
--- One arc more of a running total, and the total within the limits.
-use Rattle.std.proofs.Common.{◌≡◌, ℕ, suc, ◌+◌, ◌*◌, ◌<◌, ◌≤◌, List, [], ◌∷◌, length, drop, ℤ, Some, None, Option, sym, refl, ap, ◌∙◌, ap₂, ⊎_elim, arith}
-use Rattle.std.proofs.lemmas.List.{drop_all}
-use Rattle.std.proofs.lemmas.Bool.{cases_lt, le-leb, cond-true}
+-- A running total where nothing is left to add, and within the limits.
+use Rattle.std.proofs.Common.{◌≡◌, ℕ, suc, ◌+◌, ◌*◌, ◌≤◌, ◌⊎◌, List, [], ◌∷◌, length, ℤ, Some, sym, refl, ap, ◌∙◌, inl, inr, arith}
+use Rattle.std.proofs.lemmas.Bool.{le-leb, cond-true}
 use Rattle.costs.specs.Kinds.{Kind, Sums, Laws, sums, answered, size_limit}
 use Rattle.networks.specs.declared.network.Arc.{Arc}
-use Rattle.networks.specs.Nets.{Net, arc_at, shown}
-use Rattle.networks.proofs.Shown.{length_shown, never_absent}
 use Rattle.flows.specs.Fits.{Fitting, Small}
 use Rattle.flows.specs.Flows.{total, and_then, added, running_total}
 use Rattle.flows.proofs.Group.{assoc, left, right, size_zero}
 use Rattle.flows.proofs.Totalling.{size_multiple}
 
 module _ {C : Type 0} (S : Sums C) where
-  -- the next arc is x with the flow f, and o is the sum with it
-  pub running_more : (i : ℕ) (arcs : List (Arc C)) (flow : List ℤ) (x : Arc C) (f : ℤ) (s : C) (o : Option C) → drop i arcs ≡ x ∷ drop (i + 1) arcs → drop i flow ≡ f ∷ drop (i + 1) flow → o ≡ added S s x.cost f →
-      running_total S s (drop i arcs) (drop i flow) ≡ and_then o (λ more. running_total S more (drop (i + 1) arcs) (drop (i + 1) flow))
-  running_more i arcs flow x f s o da df e = ap₂ (running_total S s) da df ∙ ap (λ z. and_then z (λ more. running_total S more (drop (i + 1) arcs) (drop (i + 1) flow))) (sym e)
-
-  -- no flow is left, or no arc
-  pub running_all : (arcs : List (Arc C)) (flow : List ℤ) (s : C) → flow ≡ [] → running_total S s arcs flow ≡ Some s
-  running_all arcs flow s e = ap (running_total S s arcs) e ∙ none arcs
-    where
-      none : (xs : List (Arc C)) → running_total S s xs [] ≡ Some s
-      none [] = refl
-      none (x ∷ xs) = refl
-
-  pub running_short : (n : Net C) (i : ℕ) (flow : List ℤ) (s : C) → None ≡ arc_at n (i + 1) → running_total S s (drop i (shown n)) flow ≡ Some s
-  running_short n i flow s e =
-      ⊎_elim (λ (h : i < length n.arcs). absurd (never_absent n i h e)) (λ (h : length n.arcs ≤ i). ap (λ xs. running_total S s xs flow) (drop_all i (shown n) (omega (arith, length_shown n)))) (cases_lt i (length n.arcs))
+  -- no arc is left, or no flow
+  pub running_all : (arcs : List (Arc C)) (flow : List ℤ) (s : C) → (arcs ≡ []) ⊎ (length flow ≡ 0) → running_total S s arcs flow ≡ Some s
+  running_all [] flow s e = refl
+  running_all (x ∷ xs) [] s e = refl
+  running_all (x ∷ xs) (f ∷ fs) s (inl e) = absurd (let l : length (x ∷ xs) ≡ 0 = ap length e in omega arith)
+  running_all (x ∷ xs) (f ∷ fs) s (inr e) = absurd (omega arith)
 
 module _ {C : Type 0} (K : Kind C) (laws : Laws K) where
   in_range : (c : C) → K.size c ≤ size_limit → answered K.size c ≡ Some c

@@ -1,5 +1,5 @@
 -- One arc or node more of which stop comes first.
-use Rattle.std.proofs.Common.{◌≡◌, ℕ, suc, ◌+◌, true, false, ◌&&◌, List, [], ◌∷◌, drop, ℤ, Some, None, sym, refl, ap, ◌∙◌, ap₂, arith}
+use Rattle.std.proofs.Common.{◌≡◌, ℕ, suc, ◌+◌, true, false, ◌&&◌, ◌⊎◌, List, [], ◌∷◌, length, drop, ℤ, Some, None, sym, refl, ap, ◌∙◌, ap₂, inl, inr, arith}
 use lib.Signed.{le_z}
 use Rattle.std.proofs.lemmas.Bool.{cond-true, cond-false}
 use Rattle.networks.specs.declared.network.Arc.{Arc}
@@ -7,27 +7,27 @@ use Rattle.networks.specs.Answers.{Told}
 use Rattle.flows.specs.Stops.{or_else, stop_unless, arc_stop, arcs_stop, needs_stop}
 use Rattle.flows.specs.Flows.{imbalance}
 
-module _ {C : Type 0} (size : C → ℕ) (nodes i : ℕ) (arcs : List (Arc C)) (flow : List ℤ) (x : Arc C) (f : ℤ) (p : drop i arcs ≡ x ∷ drop (i + 1) arcs) (q : drop i flow ≡ f ∷ drop (i + 1) flow) where
-  step : arcs_stop size nodes (i + 1) (drop i arcs) (drop i flow) ≡ or_else (arc_stop size nodes (i + 1) x f) (arcs_stop size nodes (i + 1 + 1) (drop (i + 1) arcs) (drop (i + 1) flow))
-  step =
-      let e : suc (i + 1) ≡ i + 1 + 1 = omega arith in
-      ap₂ (arcs_stop size nodes (i + 1)) p q ∙ ap (λ k. or_else (arc_stop size nodes (i + 1) x f) (arcs_stop size nodes k (drop (i + 1) arcs) (drop (i + 1) flow))) e
+-- k arcs are done, and the next is x with the flow f
+module _ {C : Type 0} (size : C → ℕ) (nodes k i : ℕ) {arcs rest : List (Arc C)} {flow fs : List ℤ} (x : Arc C) (f : ℤ) (p : arcs ≡ x ∷ rest) (q : flow ≡ f ∷ fs) (e : i ≡ k) where
+  step : arcs_stop size nodes (k + 1) arcs flow ≡ or_else (arc_stop size nodes (i + 1) x f) (arcs_stop size nodes (suc (k + 1)) rest fs)
+  step = ap₂ (arcs_stop size nodes (k + 1)) p q ∙ ap (λ m. or_else (arc_stop size nodes (m + 1) x f) (arcs_stop size nodes (suc (k + 1)) rest fs)) (sym e)
 
   -- an arc with no fault
-  pub arcs_pass : None ≡ arc_stop size nodes (i + 1) x f → arcs_stop size nodes (i + 1 + 1) (drop (i + 1) arcs) (drop (i + 1) flow) ≡ arcs_stop size nodes (i + 1) (drop i arcs) (drop i flow)
-  arcs_pass e = sym (step ∙ ap (λ o. or_else o (arcs_stop size nodes (i + 1 + 1) (drop (i + 1) arcs) (drop (i + 1) flow))) (sym e))
+  pub arcs_pass : (j : ℕ) → j ≡ k + 1 → None ≡ arc_stop size nodes (i + 1) x f → arcs_stop size nodes (j + 1) rest fs ≡ arcs_stop size nodes (k + 1) arcs flow
+  arcs_pass j d h =
+      let next : j + 1 ≡ suc (k + 1) = omega arith in
+      ap (λ m. arcs_stop size nodes m rest fs) next ∙ sym (step ∙ ap (λ o. or_else o (arcs_stop size nodes (suc (k + 1)) rest fs)) (sym h))
 
   -- an arc with a fault
-  pub arcs_fail : (s : Told) → Some s ≡ arc_stop size nodes (i + 1) x f → arcs_stop size nodes (i + 1) (drop i arcs) (drop i flow) ≡ Some s
-  arcs_fail s e = step ∙ ap (λ o. or_else o (arcs_stop size nodes (i + 1 + 1) (drop (i + 1) arcs) (drop (i + 1) flow))) (sym e)
+  pub arcs_fail : (s : Told) → Some s ≡ arc_stop size nodes (i + 1) x f → arcs_stop size nodes (k + 1) arcs flow ≡ Some s
+  arcs_fail s h = step ∙ ap (λ o. or_else o (arcs_stop size nodes (suc (k + 1)) rest fs)) (sym h)
 
--- no arc is left
-pub arcs_end : {C : Type 0} (size : C → ℕ) (nodes k : ℕ) (arcs : List (Arc C)) (flow : List ℤ) → flow ≡ [] → arcs_stop size nodes k arcs flow ≡ None
-arcs_end {C} size nodes k arcs flow e = ap (arcs_stop size nodes k arcs) e ∙ none arcs
-  where
-    none : (xs : List (Arc C)) → arcs_stop size nodes k xs [] ≡ None
-    none [] = refl
-    none (x ∷ xs) = refl
+-- no arc is left, or no flow
+pub arcs_end : {C : Type 0} (size : C → ℕ) (nodes k : ℕ) (arcs : List (Arc C)) (flow : List ℤ) → (arcs ≡ []) ⊎ (length flow ≡ 0) → arcs_stop size nodes k arcs flow ≡ None
+arcs_end size nodes k [] flow e = refl
+arcs_end size nodes k (x ∷ xs) [] e = refl
+arcs_end size nodes k (x ∷ xs) (f ∷ fs) (inl e) = absurd (let l : length (x ∷ xs) ≡ 0 = ap length e in omega arith)
+arcs_end size nodes k (x ∷ xs) (f ∷ fs) (inr e) = absurd (omega arith)
 
 module _ {C : Type 0} (arcs : List (Arc C)) (flow : List ℤ) (i : ℕ) (needs : List ℤ) (d b : ℤ) (p : drop i needs ≡ d ∷ drop (i + 1) needs) (q : b ≡ imbalance arcs flow (i + 1)) where
   more : needs_stop arcs flow (i + 1) (drop i needs) ≡ stop_unless (le_z b d && le_z d b) 6 (i + 1) (needs_stop arcs flow (i + 1 + 1) (drop (i + 1) needs))

@@ -1,5 +1,5 @@
 -- Changes of prices.
-use Rattle.std.specs.Prelude.{◌≡◌, ℕ, ◌≤◌, Bool, true, cond, ◌&&◌, ◌||◌, List, length, ℤ, ◌≤ℤ◌}
+use Rattle.std.specs.Prelude.{◌≡◌, ℕ, suc, ◌<◌, ◌≤◌, Bool, true, cond, ◌&&◌, ◌||◌, List, length, ℤ, ◌≤ℤ◌}
 use Rattle.std.specs.List.{AllByRecursion}
 use Rattle.costs.specs.Kinds.{Kind}
 use Rattle.networks.specs.declared.network.Arc.{Arc}
@@ -9,6 +9,10 @@ use Rattle.flows.specs.Kilter.{price, reduced, kilter_number}
 -- the prices qs are ps with e more at each node of 1 to N that is not inside
 abbrev pub Raised : {C : Type 0} → Kind C → ℕ → C → (ℕ → Bool) → List C → List C → Type 0
 Raised K N e inside ps qs = (n : ℕ) → 1 ≤ n → n ≤ N → price K qs n ≡ cond (inside n) (price K ps n) (K.plus (price K ps n) e)
+
+-- what a test may answer at each place below N is whether that place's node is inside; node 1's place is 0
+abbrev pub Tells : (ℕ → Bool → Type 0) → ℕ → (ℕ → Bool) → Type 0
+Tells may_answer N inside = (k : ℕ) → k < N → (b : Bool) → may_answer k b → b ≡ inside (suc k)
 
 -- the sign does not turn: what is at least zero stays so, and what is at most zero
 pub record SignKept {C : Type 0} (K : Kind C) (c d : C) : Type 0 where

@@ -5,21 +5,17 @@ ghost use Rattle.networks.specs.Nets.{shown};
 ghost use Rattle.flows.specs.Fits.{Small};
 ghost use Rattle.flows.specs.Flows.{imbalance as imbalance_of, imbalances_from};
 
+use crate::arcs::arcs_of;
 use networks::Network;
 
 // What leaves a node less what enters it.
 pub fn imbalance<N: Network>(net: &N, flow: &[i32], node: usize) -> i64
     requires few { length flow.now ≤ 1024 }
-    requires long { length flow.now ≡ length (N.meaning net.now).arcs }
     ensures { result ≡ imbalance_of (shown (N.meaning net.now)) flow.now node }
 {
     let mut sum: i64 = 0;
-    for i in 0..flow.len() {
-        let Some(arc) = net.arc(i + 1) else {
-            return sum;
-        };
-        let f = flow[i];
-        sum = balanced(sum, part(arc.from, node, f), part(arc.to, node, f));
+    for (arc, f) in arcs_of(net).zip(flow) {
+        sum = balanced(sum, part(arc.from, node, *f), part(arc.to, node, *f));
     }
     sum
 }
@@ -46,7 +42,6 @@ fn balanced(sum: i64, leaves: i64, enters: i64) -> i64
 // The imbalance of a node where no flow is beyond the limits, as a need.
 fn need<N: Network>(net: &N, flow: &[i32], node: usize) -> i32
     requires few { length flow.now ≤ 1024 }
-    requires long { length flow.now ≡ length (N.meaning net.now).arcs }
     requires small { Small flow.now }
     ensures { result ≡ imbalance_of (shown (N.meaning net.now)) flow.now node }
 {
@@ -56,11 +51,10 @@ fn need<N: Network>(net: &N, flow: &[i32], node: usize) -> i32
 // Writes the imbalance of node k + 1 at place k.
 pub fn imbalances<N: Network>(net: &N, flow: &[i32], needs: &mut [i32])
     requires few { length flow.now ≤ 1024 }
-    requires long { length flow.now ≡ length (N.meaning net.now).arcs }
     requires small { Small flow.now }
     ensures { needs.new ≡ imbalances_from 1 (length needs.old) (shown (N.meaning net.now)) flow.now }
 {
-    for i in 0..needs.len() {
-        needs[i] = need(net, flow, i + 1);
+    for (i, written) in needs.iter_mut().enumerate() {
+        *written = need(net, flow, i + 1);
     }
 }

@@ -9,6 +9,7 @@
 // Not promised here: how a least flow is found.
 #![tactic(auto)]
 
+mod arcs;
 mod balances;
 mod figures;
 mod kilter;
@@ -20,11 +21,12 @@ mod theorems;
 mod totals;
 mod views;
 
+pub use arcs::{Arcs, arcs_of};
 pub use balances::{imbalance, imbalances};
 pub use figures::{Figure, Verdict, plain_figures, two_tier_figures};
 pub use kilter::amiss;
 pub use outside::distance;
-pub use pricing::{opposite, price_at, reduced, sum};
+pub use pricing::{opposite, price_at, raise, reduced, sum};
 pub use steps::Step;
 pub use stops::{first_stop, open_stop, take_up_stop};
 pub use theorems::{

@@ -1,8 +1,9 @@
 // Prices and reduced costs: the one place where the answers of cost operations are taken apart.
 
-ghost use Rattle.std.specs.Prelude.{◌≡◌, ℕ, ◌+◌, ◌≤◌, length};
+ghost use Rattle.std.specs.Prelude.{◌≡◌, ℕ, ◌+◌, ◌<◌, ◌≤◌, Bool, length};
 ghost use Rattle.flows.specs.Fits.{Fit, Bounded, price_limit, change_limit};
 ghost use Rattle.flows.specs.Kilter.{price, reduced as reduced_at};
+ghost use Rattle.flows.specs.Prices.{Tells, Raised};
 
 use costs::CostKind;
 use networks::Arc;
@@ -13,10 +14,7 @@ pub fn sum<C: CostKind>(a: C, b: C) -> C
     ensures value { result ≡ C.CostKind.kind.plus a b }
     ensures small { C.CostKind.kind.size result ≤ C.CostKind.kind.size a + C.CostKind.kind.size b }
 {
-    match a.plus(b) {
-        Some(c) => c,
-        None => a,
-    }
+    a.plus(b).unwrap_or(a)
 }
 
 // The negative of a cost that is not large.
@@ -25,10 +23,7 @@ pub fn opposite<C: CostKind>(a: C) -> C
     ensures value { result ≡ C.CostKind.kind.neg a }
     ensures small { C.CostKind.kind.size result ≤ C.CostKind.kind.size a }
 {
-    match a.negated() {
-        Some(c) => c,
-        None => a,
-    }
+    a.negated().unwrap_or(a)
 }
 
 // The price of a node.
@@ -51,4 +46,19 @@ pub fn reduced<C: CostKind>(arc: Arc<C>, prices: &[C]) -> C
 {
     let enter = opposite(price_at(prices, arc.to));
     sum(sum(arc.cost, price_at(prices, arc.from)), enter)
+}
+
+// Adds a cost to each price, but not at the places that the test says are inside.
+pub fn raise<C: CostKind, F: Fn(usize) -> bool>(prices: &mut [C], by: C, is_inside: F)
+    requires callable { (k : ℕ) → k < length prices.old → F.pre is_inside k }
+    requires moderate { Bounded C.CostKind.kind price_limit prices.old }
+    requires small { C.CostKind.kind.size by ≤ change_limit }
+    ensures raised { (inside : ℕ → Bool) → Tells (F.post is_inside) (length prices.old) inside → Raised C.CostKind.kind (length prices.old) by inside prices.old prices.new }
+    ensures long { length prices.new ≡ length prices.old }
+{
+    for (i, price) in prices.iter_mut().enumerate() {
+        if !is_inside(i) {
+            *price = sum(*price, by);
+        }
+    }
 }

@@ -1,12 +1,12 @@
 // Which stop comes first: the checks that calls on a plan share.
 
-ghost use Rattle.std.specs.Prelude.{◌≡◌, ℕ, ◌≤◌, ◌&&◌, length, ℤ, int_le, nat_le};
-ghost use Rattle.std.specs.Option.{option_map};
+ghost use Rattle.std.specs.Prelude.{◌≡◌, ℕ, ◌≤◌, ◌&&◌, length, ℤ, None, int_le, nat_le};
 ghost use Rattle.networks.specs.Limits.{in_limits as in_limits_of};
-ghost use Rattle.networks.specs.Stops.{told};
+ghost use Rattle.networks.specs.Answers.{refusal};
 ghost use Rattle.networks.specs.Nets.{shown};
-ghost use Rattle.flows.specs.Stops.{arc_stop, arcs_stop, needs_stop, first_stop as first_stop_of, open_stop as open_stop_of, take_up_stop as take_up_stop_of};
+ghost use Rattle.flows.specs.Stops.{counts_fit, stop_unless, arc_stop, arcs_stop, needs_stop, first_stop as first_stop_of, open_stop as open_stop_of, take_up_stop as take_up_stop_of};
 
+use crate::arcs::arcs_of;
 use crate::balances::imbalance;
 use costs::CostKind;
 use networks::{Arc, Bounds, Network, Stop};
@@ -26,39 +26,33 @@ fn in_limits(x: i32) -> bool
 }
 
 // The first fault of one arc and what it carries.
-fn arc_fault<C: CostKind>(nodes: usize, a: usize, arc: Arc<C>, f: i32) -> Option<Stop>
-    ensures { option_map told result ≡ arc_stop C.CostKind.kind.size nodes a arc f }
+fn arc_fault<C: CostKind>(nodes: usize, a: usize, arc: Arc<C>, f: i32) -> Result<(), Stop>
+    ensures { refusal result ≡ arc_stop C.CostKind.kind.size nodes a arc f }
 {
     if !ends_fit(nodes, arc.from, arc.to) {
-        return Some(Stop::Ends(a));
+        return Err(Stop::Ends(a));
     }
     if arc.cost.size() > 1_000_000 {
-        return Some(Stop::Cost(a));
+        return Err(Stop::Cost(a));
     }
     if arc.lo > arc.hi || !in_limits(arc.lo) || !in_limits(arc.hi) {
-        return Some(Stop::Bounds(a));
+        return Err(Stop::Bounds(a));
     }
     if !in_limits(f) {
-        return Some(Stop::Flow(a));
+        return Err(Stop::Flow(a));
     }
-    None
+    Ok(())
 }
 
 // The first fault of the arcs in turn.
-fn arcs_fault<N: Network>(net: &N, flow: &[i32]) -> Option<Stop>
-    requires long { length flow.now ≡ length (N.meaning net.now).arcs }
-    ensures { option_map told result ≡ arcs_stop N.Cost.CostKind.kind.size (N.meaning net.now).nodes 1 (shown (N.meaning net.now)) flow.now }
+fn arcs_fault<N: Network>(net: &N, flow: &[i32]) -> Result<(), Stop>
+    ensures { refusal result ≡ arcs_stop N.Cost.CostKind.kind.size (N.meaning net.now).nodes 1 (shown (N.meaning net.now)) flow.now }
 {
     let nodes = net.nodes();
-    for i in 0..flow.len() {
-        let Some(arc) = net.arc(i + 1) else {
-            return None;
-        };
-        if let Some(stop) = arc_fault(nodes, i + 1, arc, flow[i]) {
-            return Some(stop);
-        }
+    for (i, (arc, f)) in arcs_of(net).zip(flow).enumerate() {
+        arc_fault(nodes, i + 1, arc, *f)?;
     }
-    None
+    Ok(())
 }
 
 // Whether an imbalance is the need.
@@ -69,17 +63,27 @@ fn meets(balance: i64, need: i32) -> bool
 }
 
 // The first node whose imbalance differs from its need.
-fn needs_fault<N: Network>(net: &N, flow: &[i32], needs: &[i32]) -> Option<Stop>
+fn needs_fault<N: Network>(net: &N, flow: &[i32], needs: &[i32]) -> Result<(), Stop>
     requires few { length flow.now ≤ 1024 }
-    requires long { length flow.now ≡ length (N.meaning net.now).arcs }
-    ensures { option_map told result ≡ needs_stop (shown (N.meaning net.now)) flow.now 1 needs.now }
+    ensures { refusal result ≡ needs_stop (shown (N.meaning net.now)) flow.now 1 needs.now }
 {
-    for i in 0..needs.len() {
-        if !meets(imbalance(net, flow, i + 1), needs[i]) {
-            return Some(Stop::Imbalance(i + 1));
+    for (i, need) in needs.iter().enumerate() {
+        if !meets(imbalance(net, flow, i + 1), *need) {
+            return Err(Stop::Imbalance(i + 1));
         }
     }
-    None
+    Ok(())
+}
+
+// Whether there are too few nodes, or too many nodes or arcs.
+fn counts_fault<N: Network>(net: &N) -> Result<(), Stop>
+    ensures { refusal result ≡ stop_unless (counts_fit (N.meaning net.now).nodes (length (N.meaning net.now).arcs)) 1 0 None }
+{
+    let nodes = net.nodes();
+    if nodes == 0 || nodes > 256 || net.arcs() > 1024 {
+        return Err(Stop::Counts);
+    }
+    Ok(())
 }
 
 // The first stop of a network with its tables, if there is one.
@@ -89,20 +93,10 @@ pub fn first_stop<N: Network>(
     needs: &[i32],
     prices: usize,
     marks: usize,
-) -> Option<Stop>
-    ensures { option_map told result ≡ first_stop_of N.Cost.CostKind.kind.size (N.meaning net.now) flow.now needs.now prices marks }
+) -> Result<(), Stop>
+    ensures { refusal result ≡ first_stop_of N.Cost.CostKind.kind.size (N.meaning net.now) flow.now needs.now prices marks }
 {
-    let nodes = net.nodes();
-    let arcs = net.arcs();
-    if nodes == 0 || nodes > 256 || arcs > 1024 {
-        return Some(Stop::Counts);
-    }
-    if flow.len() != arcs || needs.len() != nodes || prices != nodes || marks != nodes {
-        return Some(Stop::Lengths);
-    }
-    if let Some(stop) = arcs_fault(net, flow) {
-        return Some(stop);
-    }
+    open_stop(net, flow, needs.len(), prices, marks)?;
     needs_fault(net, flow, needs)
 }
 
@@ -113,16 +107,13 @@ pub fn open_stop<N: Network>(
     needs: usize,
     prices: usize,
     marks: usize,
-) -> Option<Stop>
-    ensures { option_map told result ≡ open_stop_of N.Cost.CostKind.kind.size (N.meaning net.now) flow.now needs prices marks }
+) -> Result<(), Stop>
+    ensures { refusal result ≡ open_stop_of N.Cost.CostKind.kind.size (N.meaning net.now) flow.now needs prices marks }
 {
+    counts_fault(net)?;
     let nodes = net.nodes();
-    let arcs = net.arcs();
-    if nodes == 0 || nodes > 256 || arcs > 1024 {
-        return Some(Stop::Counts);
-    }
-    if flow.len() != arcs || needs != nodes || prices != nodes || marks != nodes {
-        return Some(Stop::Lengths);
+    if flow.len() != net.arcs() || needs != nodes || prices != nodes || marks != nodes {
+        return Err(Stop::Lengths);
     }
     arcs_fault(net, flow)
 }
@@ -135,16 +126,12 @@ pub fn take_up_stop<N: Network>(
     needs: &[i32],
     prices: usize,
     marks: usize,
-) -> Option<Stop>
-    ensures { option_map told result ≡ take_up_stop_of N.Cost.CostKind.kind.size (N.meaning net.now) own offered.now needs.now prices marks }
+) -> Result<(), Stop>
+    ensures { refusal result ≡ take_up_stop_of N.Cost.CostKind.kind.size (N.meaning net.now) own offered.now needs.now prices marks }
 {
-    let nodes = net.nodes();
-    let arcs = net.arcs();
-    if own == arcs {
-        return first_stop(net, offered, needs, prices, marks);
+    counts_fault(net)?;
+    if own != net.arcs() {
+        return Err(Stop::Lengths);
     }
-    if nodes == 0 || nodes > 256 || arcs > 1024 {
-        return Some(Stop::Counts);
-    }
-    Some(Stop::Lengths)
+    first_stop(net, offered, needs, prices, marks)
 }

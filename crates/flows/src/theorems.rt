@@ -8,43 +8,31 @@ ghost use Rattle.flows.specs.Prices.{KeptSignsEase};
 use costs::CostKind;
 
 // A flow with no arc out of kilter, at some prices, is a least one.
-pub fn kilter_is_least<C: CostKind>() -> u8
+pub fn kilter_is_least<C: CostKind>()
     ensures { KilterIsLeast C.CostKind.kind }
-{
-    0
-}
+{}
 
 // Where there is a cut, no flow within the bounds has the needs.
-pub fn cut_shows_none<C: CostKind>() -> u8
+pub fn cut_shows_none<C: CostKind>()
     ensures { CutShowsNone C }
-{
-    0
-}
+{}
 
 // Laps keep the imbalance of every node.
-pub fn laps_keep_imbalances<C: CostKind>() -> u8
+pub fn laps_keep_imbalances<C: CostKind>()
     ensures { LapsKeepImbalances C.CostKind.kind }
-{
-    0
-}
+{}
 
 // The kilter numbers of A arcs within the limits add up to at most 2,000,000 × A.
-pub fn kilter_sum_is_limited<C: CostKind>() -> u8
+pub fn kilter_sum_is_limited<C: CostKind>()
     ensures { KilterSumIsLimited C.CostKind.kind }
-{
-    0
-}
+{}
 
 // They add up to zero exactly when no arc is out of kilter.
-pub fn kilter_sum_tells<C: CostKind>() -> u8
+pub fn kilter_sum_tells<C: CostKind>()
     ensures { KilterSumTells C.CostKind.kind }
-{
-    0
-}
+{}
 
 // Where prices change and no reduced cost turns its sign, no kilter number rises.
-pub fn kept_signs_ease<C: CostKind>() -> u8
+pub fn kept_signs_ease<C: CostKind>()
     ensures { KeptSignsEase C.CostKind.kind }
-{
-    0
-}
+{}

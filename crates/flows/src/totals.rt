@@ -7,6 +7,7 @@ ghost use Rattle.networks.specs.Nets.{shown};
 ghost use Rattle.flows.specs.Fits.{Fitting, Small};
 ghost use Rattle.flows.specs.Flows.{added as added_to, running_total, total as total_of};
 
+use crate::arcs::arcs_of;
 use crate::pricing::sum;
 use costs::CostKind;
 use networks::Network;
@@ -18,26 +19,19 @@ fn multiple<C: CostKind>(cost: C, f: i32) -> C
     ensures value { result ≡ C.CostKind.kind.times f cost }
     ensures small { C.CostKind.kind.size result ≤ 1000000000000 }
 {
-    match cost.times(f) {
-        Some(c) => c,
-        None => cost,
-    }
+    cost.times(f).unwrap_or(cost)
 }
 
 // The sum of cost times flow.
 pub fn total<N: Network>(net: &N, flow: &[i32]) -> N::Cost
     requires few { length flow.now ≤ 1024 }
-    requires long { length flow.now ≡ length (N.meaning net.now).arcs }
     requires fitting { Fitting N.Cost.CostKind.kind (N.meaning net.now).nodes (shown (N.meaning net.now)) }
     requires small { Small flow.now }
     ensures { result ≡ total_of (sums N.Cost.CostKind.kind) (shown (N.meaning net.now)) flow.now }
 {
     let mut all = N::Cost::zero();
-    for i in 0..flow.len() {
-        let Some(arc) = net.arc(i + 1) else {
-            return all;
-        };
-        all = sum(all, multiple(arc.cost, flow[i]));
+    for (arc, f) in arcs_of(net).zip(flow) {
+        all = sum(all, multiple(arc.cost, *f));
     }
     all
 }
@@ -57,11 +51,8 @@ pub fn checked_total<N: Network>(net: &N, flow: &[i32]) -> Option<N::Cost>
     ensures within { length flow.now ≤ most_arcs → Fitting N.Cost.CostKind.kind (N.meaning net.now).nodes (shown (N.meaning net.now)) → Small flow.now → result ≡ Some (total_of (sums N.Cost.CostKind.kind) (shown (N.meaning net.now)) flow.now) }
 {
     let mut all = N::Cost::zero();
-    for i in 0..flow.len() {
-        let Some(arc) = net.arc(i + 1) else {
-            return Some(all);
-        };
-        all = added(all, arc.cost, flow[i])?;
+    for (arc, f) in arcs_of(net).zip(flow) {
+        all = added(all, arc.cost, *f)?;
     }
     Some(all)
 }

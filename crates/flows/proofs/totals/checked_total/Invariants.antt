@@ -4,8 +4,8 @@ use Rattle.networks.specs.Nets.{shown}
 use Rattle.flows.specs.Flows.{running_total}
 use Rattle.flows.proofs.totals.checked_total.Given as goal
 
-abbrev pub invariant-loop-i : goal.invariant-loop-i
-invariant-loop-i g l =
+abbrev pub invariant-loop-arc : goal.invariant-loop-arc
+invariant-loop-arc g l =
     let K = g.N.Cost.CostKind.kind in
-    let arcs = shown (g.N.Network.meaning l.net) in
-    running_total (sums K) l.all (drop l.i arcs) (drop l.i l.flow) ≡ running_total (sums K) K.zero arcs l.flow
+    let arcs = drop l.arc-iterator.a.given (shown (g.N.Network.meaning l.arc-iterator.a.net.now)) in
+    running_total (sums K) l.all arcs l.arc-iterator.b.rest.now ≡ running_total (sums K) K.zero (shown (g.N.Network.meaning l.net)) l.flow

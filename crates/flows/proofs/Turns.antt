@@ -1,0 +1,30 @@
+-- Arcs in turn: the next one is the first of those left.
+use Rattle.std.proofs.Common.{◌≡◌, ℕ, suc, ◌+◌, ◌<◌, ◌≤◌, ◌⊎◌, List, [], ◌∷◌, length, get_or, drop, ℤ, pos, nat_abs, Some, None, Option, refl, ap, subst, inl, inr, arith}
+use Rattle.std.specs.Prelude.{MatchOption}
+use Rattle.networks.specs.declared.network.Arc.{Arc}
+use Rattle.networks.specs.Nets.{Net, arc_at, shown}
+use Rattle.networks.proofs.Shown.{never_absent, arc_first}
+use Rattle.networks.specs.Limits.{flow_limit}
+use Rattle.flows.specs.Flows.{over}
+use Rattle.flows.specs.Fits.{Small}
+
+pub next_first : {C : Type 0} (n : Net C) (i : ℕ) (r : Option (Arc C)) → i < length n.arcs → r ≡ arc_at n (i + 1) →
+    MatchOption r ((drop i (shown n) ≡ []) × (drop (i + 1) (shown n) ≡ [])) (λ x. drop i (shown n) ≡ x ∷ drop (i + 1) (shown n))
+next_first n i None h e = absurd (never_absent n i h e)
+next_first n i (Some x) h e = arc_first n i x e
+
+-- no arc is left, or no flow
+pub over_none : {C M : Type 0} (none : M) (plus : M → M → M) (h : Arc C → ℤ → M) (arcs : List (Arc C)) (flow : List ℤ) → (arcs ≡ []) ⊎ (length flow ≡ 0) → over none plus h arcs flow ≡ none
+over_none none plus h [] flow e = refl
+over_none none plus h (x ∷ xs) [] e = refl
+over_none none plus h (x ∷ xs) (f ∷ fs) (inl e) = absurd (let l : length (x ∷ xs) ≡ 0 = ap length e in omega arith)
+over_none none plus h (x ∷ xs) (f ∷ fs) (inr e) = absurd (omega arith)
+
+-- a `next` of arcs beside flows that gave none
+pub none_left : {A B X : Type 0} {P : A → Type 0} {Q : B → Type 0} (arcs : List X) (flow : List ℤ) → ((a : A) × ((arcs ≡ []) × P a)) ⊎ ((b : B) × ((length flow ≡ 0) × Q b)) → (arcs ≡ []) ⊎ (length flow ≡ 0)
+none_left arcs flow (inl (a, e)) = inl e.0
+none_left arcs flow (inr (b, e)) = inr e.0
+
+-- the flows after the first are within the limits too
+pub small_rest : {flow fs : List ℤ} {f : ℤ} → flow ≡ f ∷ fs → Small flow → Small fs
+small_rest {flow} {fs} {f} e small i = subst (λ xs. nat_abs (get_or xs (suc i) (pos 0)) ≤ flow_limit) e (small (suc i))
