@@ -20,7 +20,7 @@ use Rattle.flows.proofs.Prices.{Allows, all_repriced}
 use Rattle.flows.proofs.Wants.{WantsMore, WantsLess, zero_kilter}
 use Rattle.labels.specs.declared.labelling.Labels.{Labels}
 use Rattle.reach.specs.declared.scans.Best.{Best}
-use Rattle.reach.specs.Scans.{is_labelled, crossing_at, slack_at, AtMost, Across, Seen}
+use Rattle.reach.specs.Scans.{is_labelled, crossing_at, slack_at, AtMost, Across, Sighted}
 use Rattle.reach.specs.Rises.{own_limit_at}
 use Rattle.reach.specs.Rounds.{CutOff}
 use Rattle.reach.proofs.Wanting.{Wants, After, UpTo, is_less, not_less, less_is, add_down, own_is}
@@ -141,7 +141,7 @@ module _ {C : Type 0} (K : Kind C) (laws : Laws K) where
   strained_stuck inside a f (inr (p, q, l)) = ((λ x y. off_on (sym p ∙ x)), (λ _ _. omega (arith, ints)))
 
   module _ (arcs : List (Arc C)) (flow : List ℤ) (ps : List C) (chosen : Step) (ls : Labels) (best : Option (Best C))
-      (fitting : Fitting K (length ps) arcs) (long : length flow ≡ length arcs) (seen : Seen K arcs flow ps chosen.arc ls (length arcs) best) where
+      (fitting : Fitting K (length ps) arcs) (long : length flow ≡ length arcs) (seen : Sighted K arcs flow ps chosen.arc ls (length arcs) best) where
     -- so does every other arc, up to the least slack
     other_allows : (e : C) → ((s : C) → AtMost K best s → K.le e s ≡ true) → (i : ℕ) (a : Arc C) → IsAt arcs i a → (i ≡ chosen.arc → ⊥) → Allows K e (is_labelled ls) ps a (get_or flow i (pos 0))
     other_allows e least i a is other = record {

@@ -9,23 +9,23 @@ use Rattle.flows.specs.declared.steps.Step.{Step}
 use Rattle.labels.specs.declared.labelling.Labels.{Labels}
 use Rattle.flows.specs.Laps.{near, far}
 use Rattle.labels.specs.Moves.{may_at}
-use Rattle.labels.specs.Good.{entry_at, node_at, place_of, Open, Linked, Whole, Good}
+use Rattle.labels.specs.Good.{count, entry_at, node_at, place_of, Open, Linked, Whole, Good}
 use Rattle.flows.proofs.ArcSums.{same_at}
 use Rattle.flows.specs.Prices.{Raised}
 use Rattle.reach.specs.Scans.{is_labelled}
 
 module _ {C : Type 0} (K : Kind C) (arcs : List (Arc C)) (flow : List ℤ) (ps qs : List C) (chosen : ℕ) (e : C) (ls : Labels) (long : length qs ≡ length ps) (raised : Raised K (length ps) e (is_labelled ls) ps qs) (good : Good K arcs flow ps chosen ls) where
-  same_price : (k : ℕ) → k < ls.count → price K qs (node_at ls k) ≡ price K ps (node_at ls k)
+  same_price : (k : ℕ) → k < count ls → price K qs (node_at ls k) ≡ price K ps (node_at ls k)
   same_price k h =
       let n = good.whole.nodes k h in
       let p : 0 < place_of ls (node_at ls k) = omega (arith, good.whole.placed k h) in
       raised (node_at ls k) n.0 n.1 ∙ cond-true (ltb 0 (place_of ls (node_at ls k))) (price K ps (node_at ls k)) (K.plus (price K ps (node_at ls k)) e) (lt-ltb 0 (place_of ls (node_at ls k)) p)
 
-  same_cost : (a : Arc C) (along : Bool) (j k : ℕ) → j < ls.count → k < ls.count → near a along ≡ node_at ls j → far a along ≡ node_at ls k → reduced K ps a ≡ reduced K qs a
+  same_cost : (a : Arc C) (along : Bool) (j k : ℕ) → j < count ls → k < count ls → near a along ≡ node_at ls j → far a along ≡ node_at ls k → reduced K ps a ≡ reduced K qs a
   same_cost a true j k hj hk p q = sym (ap₂ (λ x y. minus K (K.plus a.cost x) y) (ap (price K qs) p ∙ same_price j hj ∙ ap (price K ps) (sym p)) (ap (price K qs) q ∙ same_price k hk ∙ ap (price K ps) (sym q)))
   same_cost a false j k hj hk p q = sym (ap₂ (λ x y. minus K (K.plus a.cost x) y) (ap (price K qs) q ∙ same_price k hk ∙ ap (price K ps) (sym q)) (ap (price K qs) p ∙ same_price j hj ∙ ap (price K ps) (sym p)))
 
-  opens_same : (k : ℕ) → k < ls.count → Linked K arcs flow ps chosen ls k → Open K arcs flow qs chosen (entry_at ls k).step (node_at ls k)
+  opens_same : (k : ℕ) → k < count ls → Linked K arcs flow ps chosen ls k → Open K arcs flow qs chosen (entry_at ls k).step (node_at ls k)
   opens_same k h l = record {
     leads = l.opens.leads;
     other = l.opens.other;

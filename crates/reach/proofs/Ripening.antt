@@ -1,5 +1,5 @@
 -- Labelling over an arc that leads across.
-use Rattle.std.proofs.Common.{◌≡◌, ℕ, ◌-◌, ◌<◌, ◌≤◌, Bool, true, false, cond, not, ltb, List, length, get_or, ℤ, pos, Some, None, sym, refl, ap, ◌∙◌, subst, ap₂, subst₂, arith}
+use Rattle.std.proofs.Common.{◌≡◌, ℕ, ◌+◌, [], ◌∷◌, length-append, ◌-◌, ◌<◌, ◌≤◌, Bool, true, false, cond, ltb, List, length, get_or, ℤ, pos, Some, None, sym, refl, ap, ◌∙◌, subst, ap₂, subst₂, arith}
 use lib.Signed.{lt_z}
 use Rattle.std.proofs.lemmas.Bool.{ltb-true, ltb-false, lt-ltb, le-ltb, cond-true, cond-false}
 use Rattle.costs.specs.Kinds.{Kind, Laws, minus}
@@ -10,13 +10,15 @@ use Rattle.labels.specs.declared.labelling.Labels.{Labels}
 use Rattle.flows.specs.Laps.{near, far}
 use Rattle.flows.specs.Fits.{Fit, Fitting}
 use Rattle.labels.specs.Moves.{may}
-use Rattle.labels.specs.Good.{node_at, place_of, Labelled, Good}
+use Rattle.labels.specs.Good.{count, node_at, place_of, pushed, Labelled, Good, Grown}
 use Rattle.flows.proofs.ArcSums.{same_at}
 use Rattle.flows.proofs.Group.{cancel, le_refl, left}
 use Rattle.flows.proofs.Prices.{to_raised, from_raised}
+use Rattle.labels.proofs.Extending.{new_room, new_good, new_grown}
 use Rattle.reach.specs.declared.scans.Best.{Best}
+use Rattle.reach.specs.declared.scans.Crossing.{Crossing}
 use Rattle.flows.specs.Prices.{Raised}
-use Rattle.reach.specs.Scans.{is_labelled, crossing_at, slack_at, BestIs, Ripe}
+use Rattle.reach.specs.Scans.{is_labelled, crossing_at, slack_at, BestIs, Ripe, link_over}
 
 across_ends : (x y : Bool) (p q : ℕ) (along : Bool) → ltb 0 p ≡ x → ltb 0 q ≡ y → cond x (cond y None (Some true)) (cond y (Some false) None) ≡ Some along → (0 < cond along p q) × (cond along q p ≡ 0)
 across_ends true false p q true u v e = (ltb-true 0 p u, omega (arith, ltb-false 0 q v))
@@ -30,44 +32,51 @@ pub crossed : {C : Type 0} (ls : Labels) (a : Arc C) (along : Bool) → crossing
 crossed ls a true e = across_ends (ltb 0 (place_of ls a.from)) (ltb 0 (place_of ls a.to)) (place_of ls a.from) (place_of ls a.to) true refl refl e
 crossed ls a false e = across_ends (ltb 0 (place_of ls a.from)) (ltb 0 (place_of ls a.to)) (place_of ls a.from) (place_of ls a.to) false refl refl e
 
-near_is : {C : Type 0} (a : Arc C) (along : Bool) → far a (not along) ≡ near a along
-near_is a true = refl
-near_is a false = refl
-
 near_fits : {C : Type 0} (K : Kind C) (N : ℕ) (a : Arc C) (along : Bool) → Fit K N a → (1 ≤ near a along) × (near a along ≤ N)
 near_fits K N a true f = (f.ends.0, f.ends.1)
 near_fits K N a false f = (f.ends.2, f.ends.3)
 
-pub record ReadyTo {C : Type 0} (K : Kind C) (flow : List ℤ) (prices : List C) (ls : Labels) (i : ℕ) (a : Arc C) (along : Bool) (n : ℕ) : Type 0 where
-  pub low : 1 ≤ n
-  pub high : n ≤ length prices
-  pub labelled : 0 < place_of ls n
-  pub place : place_of ls n - 1 < ls.count
-  pub node : node_at ls (place_of ls n - 1) ≡ n
-  pub here : near a along ≡ node_at ls (place_of ls n - 1)
-  pub fresh : place_of ls (far a along) ≡ 0
-  pub moves : may K prices a along (get_or flow i (pos 0)) ≡ true
+-- labelling over an arc that leads across
+module _ {C : Type 0} (K : Kind C) (arcs : List (Arc C)) (flow : List ℤ) (prices : List C) (chosen : ℕ) (few : length prices ≤ 256) (ls : Labels) (good : Good K arcs flow prices chosen ls) (fitting : Fitting K (length prices) arcs)
+    (x : Crossing) (ripe : Ripe K arcs flow prices chosen ls x) (a : Arc C) (is : IsAt arcs x.arc a) where
+  n : ℕ
+  n = near a x.along
 
-pub ready_to : {C : Type 0} (K : Kind C) (arcs : List (Arc C)) (flow : List ℤ) (prices : List C) (chosen : ℕ) (ls : Labels) (i : ℕ) (a : Arc C) (along : Bool) (n : ℕ) → Good K arcs flow prices chosen ls → Fitting K (length prices) arcs → IsAt arcs i a →
-    Ripe K arcs flow prices chosen ls i along → n ≡ far a (not along) → ReadyTo K flow prices ls i a along n
-ready_to {C} K arcs flow prices chosen ls i a along n good fitting is (b, x, m) e =
-    let q : b ≡ a = same_at arcs i b a x.is is in
-    let w = crossed ls a along (subst (λ z. crossing_at ls z ≡ Some along) q x.leads) in
-    let s : n ≡ near a along = e ∙ near_is a along in
-    let f = near_fits K (length prices) a along (fitting i a is) in
-    let low : 1 ≤ n = omega (arith, f.0) in
-    let lab : 0 < place_of ls n = subst (λ z. 0 < place_of ls z) (sym s) w.0 in
-    let h = good.whole.holds n low lab in
-    record {
-      low = low;
-      high = omega (arith, f.1);
-      labelled = lab;
-      place = omega (arith, h.0);
-      node = h.1;
-      here = sym s ∙ sym h.1;
-      fresh = w.1;
-      moves = subst (λ z. may K prices z along (get_or flow i (pos 0)) ≡ true) q m;
-    }
+  same : ripe.0 ≡ a
+  same = same_at arcs x.arc ripe.0 a ripe.1.is is
+
+  across : Labelled ls (near a x.along) × (place_of ls (far a x.along) ≡ 0)
+  across = crossed ls a x.along (subst (λ z. crossing_at ls z ≡ Some x.along) same ripe.1.leads)
+
+  pub link_near : Labelled ls (near a x.along)
+  link_near = across.0
+
+  held : (place_of ls (near a x.along) ≤ count ls) × (node_at ls (place_of ls (near a x.along) - 1) ≡ near a x.along)
+  held = good.whole.holds (near a x.along) (near_fits K (length prices) a x.along (fitting x.arc a is)).0 across.0
+
+  at : ℕ
+  at = place_of ls (near a x.along) - 1
+
+  before : place_of ls (near a x.along) - 1 < count ls
+  before = omega (arith, held.0, across.0)
+
+  moves : may K prices a x.along (get_or flow x.arc (pos 0)) ≡ true
+  moves = subst (λ z. may K prices z x.along (get_or flow x.arc (pos 0)) ≡ true) same ripe.2
+
+  pub link_room : count ls < 256
+  link_room = new_room K arcs flow prices chosen few ls good (place_of ls (near a x.along) - 1) x.arc before ripe.1.other a is (fitting x.arc a is) x.along (sym held.1) across.1 moves
+
+  as_entry : pushed ls (record { node = far a x.along; parent = place_of ls (near a x.along) - 1; step = record { node = node_at ls (place_of ls (near a x.along) - 1); arc = x.arc; along = x.along } }) ≡ pushed ls (link_over ls a x)
+  as_entry = ap (λ (z : ℕ). pushed ls (record { node = far a x.along; parent = place_of ls (near a x.along) - 1; step = record { node = z; arc = x.arc; along = x.along } })) held.1
+
+  pub link_good : (ms : Labels) → ms ≡ pushed ls (link_over ls a x) → Good K arcs flow prices chosen ms
+  link_good ms e = subst (Good K arcs flow prices chosen) (as_entry ∙ sym e) (new_good K arcs flow prices chosen few ls good (place_of ls (near a x.along) - 1) x.arc before ripe.1.other a is (fitting x.arc a is) x.along (sym held.1) across.1 moves)
+
+  pub link_grown : (ms : Labels) → ms ≡ pushed ls (link_over ls a x) → Grown ls ms
+  link_grown ms e = subst (Grown ls) (as_entry ∙ sym e) (new_grown K arcs flow prices chosen few ls good (place_of ls (near a x.along) - 1) x.arc before ripe.1.other a is (fitting x.arc a is) x.along (sym held.1) across.1 moves)
+
+  pub link_more : (ms : Labels) → ms ≡ pushed ls (link_over ls a x) → count ms ≡ count ls + 1
+  link_more ms e = ap count e ∙ length-append ls.entries.items (link_over ls a x ∷ [])
 
 -- what a slack is
 slack_up : {C : Type 0} (K : Kind C) (c s : C) (a : Arc C) (f : ℤ) → slack_at K c a true f ≡ Some s → (K.le c K.zero ≡ false) × (lt_z f a.hi ≡ true) × (s ≡ c)
@@ -123,7 +132,7 @@ module _ {C : Type 0} (K : Kind C) (laws : Laws K) where
         ∙ from_raised K laws e a.cost (price K ps a.from) (price K ps a.to)) in
         ap (λ z. lt_z (cond z a.lo a.hi) f) (ap (K.le K.zero) r ∙ le_refl K laws K.zero) ∙ u.1
 
-    pub ripe_raised : (b : Best C) → b.slack ≡ e → Fitting K (length ps) arcs → BestIs K arcs flow ps chosen ls (Some b) → Ripe K arcs flow qs chosen ls b.arc b.along
+    pub ripe_raised : (b : Best C) → b.slack ≡ e → Fitting K (length ps) arcs → BestIs K arcs flow ps chosen ls (Some b) → Ripe K arcs flow qs chosen ls b.over
     ripe_raised b q fitting (a, x, s) =
-        let w = crossed ls a b.along x.leads in
-        (a, x, tight a b.along (get_or flow b.arc (pos 0)) (fitting b.arc a x.is) w.0 w.1 (s ∙ ap Some q))
+        let w = crossed ls a b.over.along x.leads in
+        (a, x, tight a b.over.along (get_or flow b.over.arc (pos 0)) (fitting b.over.arc a x.is) w.0 w.1 (s ∙ ap Some q))

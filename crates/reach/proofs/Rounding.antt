@@ -1,5 +1,5 @@
 -- What holds from round to round: how far prices can be from those at the start, by how many nodes are labelled.
-use Rattle.std.proofs.Common.{◌≡◌, ℕ, ◌+◌, ◌-◌, ◌*◌, ◌<◌, ◌≤◌, Bool, true, false, cond, List, length, get_or, ℤ, sym, refl, ap, ◌∙◌, subst, inl, inr, ⊎_elim, arith}
+use Rattle.std.proofs.Common.{◌≡◌, ℕ, Ok, Result, ◌+◌, ◌-◌, ◌*◌, ◌<◌, ◌≤◌, Bool, true, false, cond, List, length, get_or, ℤ, sym, refl, ap, ◌∙◌, subst, inl, inr, ⊎_elim, arith}
 use Rattle.std.proofs.lemmas.Bool.{ltb-true, ltb-false, cases_lt}
 use Rattle.costs.specs.Kinds.{Kind, Laws}
 use Rattle.networks.specs.declared.network.Arc.{Arc}
@@ -10,12 +10,11 @@ use Rattle.flows.proofs.ArcSums.{each_at, each_from, each_long}
 use Rattle.flows.proofs.Group.{size_zero}
 use Rattle.flows.proofs.Shifts.{Shifted, SmallInside, SmallPrices, not_shifted, still_shifted, more_shifted, raised_inside, shift_small}
 use Rattle.labels.specs.declared.labelling.Labels.{Labels}
-use Rattle.labels.specs.Good.{node_at, place_of, Whole, Good, Grown}
+use Rattle.labels.specs.Good.{count, node_at, place_of, Whole, Good, Grown}
 use Rattle.labels.specs.Ways.{Chosen}
 use Rattle.reach.specs.Scans.{is_labelled}
 use Rattle.reach.specs.Rises.{Risen, Changed}
-use Rattle.reach.specs.declared.rounds.Round.{Round}
-use Rattle.reach.specs.declared.rounds.Round.TheVariants as round
+use Rattle.reach.specs.declared.rounds.Over.{Over}
 use Rattle.reach.specs.Rounds.{large, NoHigher, Repriced, Advanced}
 use Rattle.reach.proofs.Turning.{none_higher, same_source}
 
@@ -28,19 +27,19 @@ pub record Held {C : Type 0} (K : Kind C) (old ps : List C) (ls : Labels) : Type
   pub long : length ps ≡ length old
   pub shift : C
   pub shifted : Shifted K (length old) old (is_labelled ls) ps shift
-  pub shift_small : K.size shift ≤ bound ls.count + 1000001000000
-  pub inside : SmallInside K (length old) (is_labelled ls) ps (bound ls.count)
+  pub shift_small : K.size shift ≤ bound (count ls) + 1000001000000
+  pub inside : SmallInside K (length old) (is_labelled ls) ps (bound (count ls))
 
 -- a labelled node was labelled before, or there is one more
-newly : (N : ℕ) (ls ms : Labels) → Whole N ls → Whole N ms → Grown ls ms → (n : ℕ) → 1 ≤ n → is_labelled ms n ≡ true → is_labelled ls n ≡ false → ls.count + 1 ≤ ms.count
+newly : (N : ℕ) (ls ms : Labels) → Whole N ls → Whole N ms → Grown ls ms → (n : ℕ) → 1 ≤ n → is_labelled ms n ≡ true → is_labelled ls n ≡ false → count ls + 1 ≤ count ms
 newly N ls ms old new grown n low labelled not =
     let p = ltb-true 0 (place_of ms n) labelled in
     let (few, is) = new.holds n low p in
-    ⊎_elim (λ (h : place_of ms n - 1 < ls.count).
+    ⊎_elim (λ (h : place_of ms n - 1 < count ls).
     let e : node_at ls (place_of ms n - 1) ≡ n = ap (λ x. x.node) (sym (grown.same (place_of ms n - 1) h)) ∙ is in
     let q : place_of ls n ≡ place_of ms n - 1 + 1 = ap (place_of ls) (sym e) ∙ old.placed (place_of ms n - 1) h in
     absurd (let z = ltb-false 0 (place_of ls n) not in omega arith))
-    (λ (h : ls.count ≤ place_of ms n - 1). omega arith) (cases_lt (place_of ms n - 1) ls.count)
+    (λ (h : count ls ≤ place_of ms n - 1). omega arith) (cases_lt (place_of ms n - 1) (count ls))
 
 kept_label : (ls ms : Labels) → Grown ls ms → (n : ℕ) → is_labelled ms n ≡ false → is_labelled ls n ≡ false
 kept_label ls ms grown n not = go (is_labelled ls n) refl
@@ -62,8 +61,8 @@ module _ {C : Type 0} (K : Kind C) (laws : Laws K) (old : List C) (tame : Bounde
     inside = λ n l h i. omega (arith, small_start n l h);
   }
 
-  outside_small : (ps : List C) (ls : Labels) → Held K old ps ls → (n : ℕ) → 1 ≤ n → n ≤ length old → is_labelled ls n ≡ false → K.size (price K ps n) ≤ bound (ls.count + 1)
-  outside_small ps ls held n l h o = subst (λ z. K.size z ≤ bound (ls.count + 1)) (sym (held.shifted n l h o))
+  outside_small : (ps : List C) (ls : Labels) → Held K old ps ls → (n : ℕ) → 1 ≤ n → n ≤ length old → is_labelled ls n ≡ false → K.size (price K ps n) ≤ bound (count ls + 1)
+  outside_small ps ls held n l h o = subst (λ z. K.size z ≤ bound (count ls + 1)) (sym (held.shifted n l h o))
       (omega (arith, laws.adds.size_plus (price K old n) held.shift, small_start n l h, held.shift_small))
 
   pub held_grown : (ps : List C) (ls ms : Labels) → Held K old ps ls → Whole (length old) ls → Whole (length old) ms → Grown ls ms → Held K old ps ms
@@ -75,7 +74,7 @@ module _ {C : Type 0} (K : Kind C) (laws : Laws K) (old : List C) (tame : Bounde
     inside = λ n l h i. go n l h i (is_labelled ls n) refl;
   }
     where
-      go : (n : ℕ) → 1 ≤ n → n ≤ length old → is_labelled ms n ≡ true → (t : Bool) → is_labelled ls n ≡ t → K.size (price K ps n) ≤ bound ms.count
+      go : (n : ℕ) → 1 ≤ n → n ≤ length old → is_labelled ms n ≡ true → (t : Bool) → is_labelled ls n ≡ t → K.size (price K ps n) ≤ bound (count ms)
       go n l h i true q = omega (arith, held.inside n l h q, grown.more)
       go n l h i false q = omega (arith, outside_small ps ls held n l h q, newly (length old) ls ms before now grown n l i q)
 
@@ -86,10 +85,10 @@ module _ {C : Type 0} (K : Kind C) (laws : Laws K) (old : List C) (tame : Bounde
     shifted = more;
     shift_small = omega (
       arith,
-      shift_small K laws (length old) old (is_labelled ls) qs (K.plus held.shift risen.by) more large (bound ls.count + 1000000) risen.node risen.low (omega (arith, risen.high, held.long)) risen.outside small_start
-          (risen.landed (bound ls.count) (λ n l h i. held.inside n l (omega (arith, held.long)) i)),
+      shift_small K laws (length old) old (is_labelled ls) qs (K.plus held.shift risen.by) more large (bound (count ls) + 1000000) risen.node risen.low (omega (arith, risen.high, held.long)) risen.outside small_start
+          (risen.landed (bound (count ls)) (λ n l h i. held.inside n l (omega (arith, held.long)) i)),
     );
-    inside = λ n l h i. subst (λ z. K.size z ≤ bound ls.count) (sym (raised_inside K laws (length old) old (is_labelled ls) ps qs risen.by raised n l h i)) (held.inside n l h i);
+    inside = λ n l h i. subst (λ z. K.size z ≤ bound (count ls)) (sym (raised_inside K laws (length old) old (is_labelled ls) ps qs risen.by raised n l h i)) (held.inside n l h i);
   }
     where
       raised : (n : ℕ) → 1 ≤ n → n ≤ length old → price K qs n ≡ cond (is_labelled ls n) (price K ps n) (K.plus (price K ps n) risen.by)
@@ -103,7 +102,7 @@ module _ {C : Type 0} (K : Kind C) (laws : Laws K) (old : List C) (tame : Bounde
   held_changed ps qs ls held same (inr r) = held_risen ps qs ls held same r
 
   -- every price is within the limit
-  pub held_small : (ps : List C) (ls : Labels) → Held K old ps ls → ls.count ≤ 256 → Bounded K found_limit ps
+  pub held_small : (ps : List C) (ls : Labels) → Held K old ps ls → count ls ≤ 256 → Bounded K found_limit ps
   held_small ps ls held few k h =
       let e : k + 1 - 1 ≡ k = omega arith in
       subst (λ j. K.size (get_or ps j K.zero) ≤ found_limit) e (go (is_labelled ls (k + 1)) refl)
@@ -152,22 +151,22 @@ module _ {C : Type 0} (K : Kind C) (laws : Laws K) (arcs : List (Arc C)) (flow :
     }
 
     module _ (qs : List C) (ms : Labels) where
-      held_after : (r : Round) → Advanced K arcs flow ps qs chosen ls ms r → Held K old qs ls
+      held_after : (r : Result (Unit {0}) Over) → Advanced K arcs flow ps qs chosen ls ms r → Held K old qs ls
       held_after r done = held_changed K laws old tame ps qs ls before.held done.long done.changed
 
       -- a round is over, and one node more is labelled
-      pub rounding_advanced : Advanced K arcs flow ps qs chosen ls ms round.Labelled → Rounding K arcs flow old qs chosen ms
+      pub rounding_advanced : Advanced K arcs flow ps qs chosen ls ms (Ok tt) → Rounding K arcs flow old qs chosen ms
       rounding_advanced done =
           let (good, wanted, more) = done.ends in
           record {
-            held = held_grown K laws old tame qs ls ms (held_after round.Labelled done) (whole ps ls refl before.good) (whole qs ms done.long good) done.grown;
+            held = held_grown K laws old tame qs ls ms (held_after (Ok tt) done) (whole ps ls refl before.good) (whole qs ms done.long good) done.grown;
             eased = higher_both K arcs flow old ps qs before.eased done.eased;
             good = good;
             wanted = wanted;
           }
 
       -- the rounds are over
-      pub repriced_after : (r : Round) → Advanced K arcs flow ps qs chosen ls ms r → Repriced K arcs flow old qs
+      pub repriced_after : (r : Result (Unit {0}) Over) → Advanced K arcs flow ps qs chosen ls ms r → Repriced K arcs flow old qs
       repriced_after r done = record {
         long = done.long ∙ before.held.long;
         small = held_small K laws old tame qs ls (held_after r done) before.good.whole.few;

@@ -10,23 +10,23 @@ use Rattle.labels.specs.declared.labelling.Labels.{Labels}
 use Rattle.labels.specs.Moves.{may}
 use Rattle.flows.proofs.ArcSums.{same_at}
 use Rattle.reach.specs.declared.scans.Best.{Best}
-use Rattle.reach.specs.declared.scans.Scan.TheVariants.{Open, Shut}
-use Rattle.reach.specs.Scans.{crossing_at, slack_at, nearer_of, best_of, sight_of, AtMost, Across, BestIs, Seen, Scanned}
+use Rattle.std.specs.declared.ops.ControlFlow.TheVariants.{Continue, Break}
+use Rattle.reach.specs.Scans.{crossing_at, slack_at, nearer_of, best_of, sight_of, AtMost, Across, BestIs, Sighted, Scanned}
 
 module _ {C : Type 0} (K : Kind C) (laws : Laws K) (arcs : List (Arc C)) (flow : List ℤ) (prices : List C) (chosen : ℕ) (ls : Labels) where
-  pub seen_more : (n : ℕ) (best new : Option (Best C)) → Seen K arcs flow prices chosen ls n best → ((s : C) → AtMost K best s → AtMost K new s) →
+  pub seen_more : (n : ℕ) (best new : Option (Best C)) → Sighted K arcs flow prices chosen ls n best → ((s : C) → AtMost K best s → AtMost K new s) →
       ((a : Arc C) (along : Bool) → Across arcs chosen ls n a along → may K prices a along (get_or flow n (pos 0)) ≡ false) →
       ((a : Arc C) (along : Bool) → Across arcs chosen ls n a along → (s : C) → slack_at K (reduced K prices a) a along (get_or flow n (pos 0)) ≡ Some s → AtMost K new s) →
-      BestIs K arcs flow prices chosen ls new → Seen K arcs flow prices chosen ls (n + 1) new
+      BestIs K arcs flow prices chosen ls new → Sighted K arcs flow prices chosen ls (n + 1) new
   seen_more n best new old less shut least found = record {
     shut = λ i h a along x. ⊎_elim (λ (q : i ≡ n). subst (λ j. may K prices a along (get_or flow j (pos 0)) ≡ false) (sym q) (shut a along (subst (λ j. Across arcs chosen ls j a along) q x))) (λ q. old.shut i (omega arith) a along x) (cases_eq i n);
     least = λ i h a along x s e. ⊎_elim (λ (q : i ≡ n). least a along (subst (λ j. Across arcs chosen ls j a along) q x) s (ap (λ j. slack_at K (reduced K prices a) a along (get_or flow j (pos 0))) (sym q) ∙ e)) (λ q. less s (old.least i (omega arith) a along x s e)) (cases_eq i n);
     found = found;
   }
 
-  module _ (n : ℕ) (best : Option (Best C)) (old : Seen K arcs flow prices chosen ls n best) (a : Arc C) (is : IsAt arcs n a) where
+  module _ (n : ℕ) (best : Option (Best C)) (old : Sighted K arcs flow prices chosen ls n best) (a : Arc C) (is : IsAt arcs n a) where
     -- the arc does not lead across
-    pub seen_aside : None ≡ crossing_at ls a → Seen K arcs flow prices chosen ls (n + 1) best
+    pub seen_aside : None ≡ crossing_at ls a → Sighted K arcs flow prices chosen ls (n + 1) best
     seen_aside no_way = seen_more n best best old (λ s h. h) (λ b along x. absurd (never b along x)) (λ b along x. absurd (never b along x)) old.found
       where
         never : (b : Arc C) (along : Bool) → Across arcs chosen ls n b along → ⊥
@@ -40,12 +40,12 @@ module _ {C : Type 0} (K : Kind C) (laws : Laws K) (arcs : List (Arc C)) (flow :
           let e : along ≡ d = let r = x.leads in let s = ap (crossing_at ls) q in cc in
           subst (λ z. P z d) q (subst (P a) e p)
 
-      pub seen_free : None ≡ slack_at K (reduced K prices a) a along (get_or flow n (pos 0)) → Seen K arcs flow prices chosen ls (n + 1) best
+      pub seen_free : None ≡ slack_at K (reduced K prices a) a along (get_or flow n (pos 0)) → Sighted K arcs flow prices chosen ls (n + 1) best
       seen_free free = seen_more n best best old (λ s h. h) (only (λ b d. may K prices b d (get_or flow n (pos 0)) ≡ false) closed)
           (only (λ b d. (s : C) → slack_at K (reduced K prices b) b d (get_or flow n (pos 0)) ≡ Some s → AtMost K best s) (λ s e. absurd (let z : ◌≡◌ {A = ℕ} 0 1 = cc in omega arith))) old.found
 
-      pub seen_slack : (s : C) (b : Best C) → (n ≡ chosen → ⊥) → Some s ≡ slack_at K (reduced K prices a) a along (get_or flow n (pos 0)) → b ≡ record { slack = s; arc = n; along = along } → (r : Best C) → r ≡ nearer_of K best b → Seen K arcs flow prices chosen ls (n + 1) (Some r)
-      seen_slack s b other e be r re = subst (λ z. Seen K arcs flow prices chosen ls (n + 1) (Some z)) (sym re) (seen_more n best (Some (nearer_of K best b)) old (fewer best)
+      pub seen_slack : (s : C) (b : Best C) → (n ≡ chosen → ⊥) → Some s ≡ slack_at K (reduced K prices a) a along (get_or flow n (pos 0)) → b ≡ record { slack = s; over = record { arc = n; along = along } } → (r : Best C) → r ≡ nearer_of K best b → Sighted K arcs flow prices chosen ls (n + 1) (Some r)
+      seen_slack s b other e be r re = subst (λ z. Sighted K arcs flow prices chosen ls (n + 1) (Some z)) (sym re) (seen_more n best (Some (nearer_of K best b)) old (fewer best)
           (only (λ b d. may K prices b d (get_or flow n (pos 0)) ≡ false) closed)
           (only (λ x d. (t : C) → slack_at K (reduced K prices x) x d (get_or flow n (pos 0)) ≡ Some t → AtMost K (Some (nearer_of K best b)) t) (λ t q. let same : s ≡ t = cc in subst (λ z. AtMost K (Some (nearer_of K best b)) z) same (here best)))
           (is_one best old.found))
@@ -78,13 +78,13 @@ module _ {C : Type 0} (K : Kind C) (laws : Laws K) (arcs : List (Arc C)) (flow :
               go false = mine
 
     -- whatever it makes of the best
-    pub sighted : (along : Bool) → Some along ≡ crossing_at ls a → (n ≡ chosen → ⊥) → Scanned K arcs flow prices chosen ls (n + 1) (sight_of K (reduced K prices a) a along (get_or flow n (pos 0)) n best)
+    pub sighted : (along : Bool) → Some along ≡ crossing_at ls a → (n ≡ chosen → ⊥) → Scanned K arcs flow prices chosen ls (n + 1) (sight_of K (reduced K prices a) a (record { arc = n; along = along }) (get_or flow n (pos 0)) best)
     sighted along way other = go (may K prices a along (get_or flow n (pos 0))) refl
       where
-        rest : (o : Option C) → o ≡ slack_at K (reduced K prices a) a along (get_or flow n (pos 0)) → may K prices a along (get_or flow n (pos 0)) ≡ false → Seen K arcs flow prices chosen ls (n + 1) (best_of K o n along best)
+        rest : (o : Option C) → o ≡ slack_at K (reduced K prices a) a along (get_or flow n (pos 0)) → may K prices a along (get_or flow n (pos 0)) ≡ false → Sighted K arcs flow prices chosen ls (n + 1) (best_of K o (record { arc = n; along = along }) best)
         rest None e q = seen_free along way q e
-        rest (Some s) e q = seen_slack along way q s (record { slack = s; arc = n; along = along }) other e refl (nearer_of K best (record { slack = s; arc = n; along = along })) refl
+        rest (Some s) e q = seen_slack along way q s (record { slack = s; over = record { arc = n; along = along } }) other e refl (nearer_of K best (record { slack = s; over = record { arc = n; along = along } })) refl
 
-        go : (t : Bool) → may K prices a along (get_or flow n (pos 0)) ≡ t → Scanned K arcs flow prices chosen ls (n + 1) (cond t (Open n along) (Shut (best_of K (slack_at K (reduced K prices a) a along (get_or flow n (pos 0))) n along best)))
+        go : (t : Bool) → may K prices a along (get_or flow n (pos 0)) ≡ t → Scanned K arcs flow prices chosen ls (n + 1) (cond t (Break (record { arc = n; along = along })) (Continue (best_of K (slack_at K (reduced K prices a) a along (get_or flow n (pos 0))) (record { arc = n; along = along }) best)))
         go true q = (a, record { other = other; is = is; leads = sym way }, q)
         go false q = rest (slack_at K (reduced K prices a) a along (get_or flow n (pos 0))) refl q

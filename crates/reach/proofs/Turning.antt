@@ -1,5 +1,5 @@
 -- What a round does, by what the next rise is for.
-use Rattle.std.proofs.Common.{◌≡◌, ℕ, ◌+◌, ◌<◌, ◌≤◌, Bool, true, false, cond, List, length, get_or, ℤ, pos, Some, None, Option, sym, refl, ap, subst, inl, inr, arith}
+use Rattle.std.proofs.Common.{◌≡◌, ℕ, ◌+◌, ◌<◌, ◌≤◌, Bool, true, false, cond, List, length, get_or, ℤ, pos, Some, None, Option, Ok, Err, sym, refl, ap, subst, inl, inr, arith}
 use Rattle.std.proofs.lemmas.Bool.{lt-ltb, le-ltb}
 use Rattle.costs.specs.Kinds.{Kind, Laws}
 use Rattle.networks.specs.declared.network.Arc.{Arc}
@@ -11,13 +11,13 @@ use Rattle.flows.specs.Prices.{Raised}
 use Rattle.flows.proofs.ArcSums.{each_from}
 use Rattle.flows.proofs.Group.{le_refl}
 use Rattle.labels.specs.declared.labelling.Labels.{Labels}
-use Rattle.labels.specs.Good.{node_at, place_of, Good, Grown}
+use Rattle.labels.specs.Good.{count, node_at, place_of, Good, Grown}
 use Rattle.labels.specs.Ways.{Chosen}
 use Rattle.labels.proofs.Extending.{grown_none}
 use Rattle.reach.specs.declared.scans.Best.{Best}
-use Rattle.reach.specs.declared.rises.Rise.TheVariants.{Label, Kilter, Unlimited}
-use Rattle.reach.specs.declared.rounds.Round.TheVariants as round
-use Rattle.reach.specs.Scans.{is_labelled, AtMost, BestIs, Seen, Ripe}
+use Rattle.reach.specs.declared.rises.Rise.TheVariants.{Label, Kilter}
+use Rattle.reach.specs.declared.rounds.Over.TheVariants as over
+use Rattle.reach.specs.Scans.{is_labelled, AtMost, BestIs, Sighted, Ripe}
 use Rattle.reach.specs.Rises.{own_limit_at, next_of, NextIs, Risen}
 use Rattle.reach.specs.Rounds.{NoHigher, Advanced}
 use Rattle.reach.proofs.Repriced.{good_raised}
@@ -28,35 +28,31 @@ use Rattle.reach.proofs.Aiming.{Aimed, aim, own_small, own_lands, still_chosen}
 use Rattle.reach.proofs.Easing.{eased, in_kilter, cut_off}
 
 module _ {C : Type 0} (K : Kind C) where
-  next_label : (own : Option C) (best : Option (Best C)) (b : Best C) → Label b ≡ next_of K own best → (best ≡ Some b) × ShortOf K own b.slack
+  next_label : (own : Option C) (best : Option (Best C)) (b : Best C) → Some (Label b) ≡ next_of K own best → (best ≡ Some b) × ShortOf K own b.slack
   next_label None None b h = absurd (let z : ◌≡◌ {A = ℕ} 0 1 = cc in omega arith)
   next_label None (Some d) b h = (cc, tt)
   next_label (Some c) None b h = absurd (let z : ◌≡◌ {A = ℕ} 0 1 = cc in omega arith)
   next_label (Some c) (Some d) b h = go (K.le c d.slack) refl h
     where
-      go : (t : Bool) → K.le c d.slack ≡ t → Label b ≡ cond t (Kilter c) (Label d) → (Some d ≡ Some b) × (K.le c b.slack ≡ false)
+      go : (t : Bool) → K.le c d.slack ≡ t → Some (Label b) ≡ Some (cond t (Kilter c) (Label d)) → (Some d ≡ Some b) × (K.le c b.slack ≡ false)
       go true q h = absurd (let z : ◌≡◌ {A = ℕ} 0 1 = cc in omega arith)
       go false q h = let e : d ≡ b = cc in (ap Some e, subst (λ z. K.le c z.slack ≡ false) e q)
 
-  next_kilter : (own : Option C) (best : Option (Best C)) (e : C) → Kilter e ≡ next_of K own best → (own ≡ Some e) × (Laws K → (s : C) → AtMost K best s → K.le e s ≡ true)
+  next_kilter : (own : Option C) (best : Option (Best C)) (e : C) → Some (Kilter e) ≡ next_of K own best → (own ≡ Some e) × (Laws K → (s : C) → AtMost K best s → K.le e s ≡ true)
   next_kilter None None e h = absurd (let z : ◌≡◌ {A = ℕ} 0 1 = cc in omega arith)
   next_kilter None (Some d) e h = absurd (let z : ◌≡◌ {A = ℕ} 0 1 = cc in omega arith)
   next_kilter (Some c) None e h = (cc, λ laws s m. absurd m)
   next_kilter (Some c) (Some d) e h = go (K.le c d.slack) refl h
     where
-      go : (t : Bool) → K.le c d.slack ≡ t → Kilter e ≡ cond t (Kilter c) (Label d) → (Some c ≡ Some e) × (Laws K → (s : C) → K.le d.slack s ≡ true → K.le e s ≡ true)
+      go : (t : Bool) → K.le c d.slack ≡ t → Some (Kilter e) ≡ Some (cond t (Kilter c) (Label d)) → (Some c ≡ Some e) × (Laws K → (s : C) → K.le d.slack s ≡ true → K.le e s ≡ true)
       go true q h = let r : c ≡ e = cc in (ap Some r, λ laws s m. laws.trans e d.slack s (subst (λ z. K.le z d.slack ≡ true) r q) m)
       go false q h = absurd (let z : ◌≡◌ {A = ℕ} 0 1 = cc in omega arith)
 
-  next_none : (own : Option C) (best : Option (Best C)) → Unlimited ≡ next_of K own best → (own ≡ None) × (best ≡ None)
+  next_none : (own : Option C) (best : Option (Best C)) → None ≡ next_of K own best → (own ≡ None) × (best ≡ None)
   next_none None None h = (refl, refl)
   next_none None (Some d) h = absurd (let z : ◌≡◌ {A = ℕ} 0 1 = cc in omega arith)
   next_none (Some c) None h = absurd (let z : ◌≡◌ {A = ℕ} 0 1 = cc in omega arith)
-  next_none (Some c) (Some d) h = go (K.le c d.slack) h
-    where
-      go : (t : Bool) → Unlimited ≡ cond t (Kilter c) (Label d) → (Some c ≡ None) × (Some d ≡ None)
-      go true h = absurd (let z : ◌≡◌ {A = ℕ} 0 1 = cc in omega arith)
-      go false h = absurd (let z : ◌≡◌ {A = ℕ} 0 1 = cc in omega arith)
+  next_none (Some c) (Some d) h = absurd (let z : ◌≡◌ {A = ℕ} 0 1 = cc in omega arith)
 
   -- below a limit is at most it; a limit is at most itself
   short_up : Laws K → (own : Option C) (e : C) → ShortOf K own e → UpTo K own e
@@ -72,13 +68,13 @@ pub none_higher : {C : Type 0} (K : Kind C) (arcs : List (Arc C)) (flow : List �
 none_higher K arcs flow ps long = each_from (λ a f. kilter_number K (reduced K ps a) a f ≤ kilter_number K (reduced K ps a) a f) arcs flow long (λ i a f is at. omega arith)
 
 -- the source stays
-pub same_source : {C : Type 0} (K : Kind C) (arcs : List (Arc C)) (flow : List ℤ) (ps : List C) (chosen : Step) (ls ms : Labels) → 1 ≤ ls.count → Grown ls ms →
+pub same_source : {C : Type 0} (K : Kind C) (arcs : List (Arc C)) (flow : List ℤ) (ps : List C) (chosen : Step) (ls ms : Labels) → 1 ≤ count ls → Grown ls ms →
     Chosen K arcs flow ps chosen (node_at ls 0) → Chosen K arcs flow ps chosen (node_at ms 0)
 same_source K arcs flow ps chosen ls ms some grown step = subst (Chosen K arcs flow ps chosen) (ap (λ e. e.node) (sym (grown.same 0 (omega arith)))) step
 
 -- a node more is labelled at the same prices
-pub open_done : {C : Type 0} (K : Kind C) (arcs : List (Arc C)) (flow : List ℤ) (ps : List C) (chosen : Step) (ls ms : Labels) → 1 ≤ ls.count → Chosen K arcs flow ps chosen (node_at ls 0) → length flow ≡ length arcs →
-    Good K arcs flow ps chosen.arc ms → Grown ls ms → ms.count ≡ ls.count + 1 → Advanced K arcs flow ps ps chosen ls ms round.Labelled
+pub open_done : {C : Type 0} (K : Kind C) (arcs : List (Arc C)) (flow : List ℤ) (ps : List C) (chosen : Step) (ls ms : Labels) → 1 ≤ count ls → Chosen K arcs flow ps chosen (node_at ls 0) → length flow ≡ length arcs →
+    Good K arcs flow ps chosen.arc ms → Grown ls ms → count ms ≡ count ls + 1 → Advanced K arcs flow ps ps chosen ls ms (Ok tt)
 open_done K arcs flow ps chosen ls ms some step long good grown more = record {
   long = refl;
   changed = inl refl;
@@ -89,7 +85,7 @@ open_done K arcs flow ps chosen ls ms some step long good grown more = record {
 
 module _ {C : Type 0} (K : Kind C) (laws : Laws K) (arcs : List (Arc C)) (flow : List ℤ) (ps : List C) (chosen : Step) (ls : Labels)
     (fitting : Fitting K (length ps) arcs) (small : Bounded K price_limit ps) (long : length flow ≡ length arcs) (good : Good K arcs flow ps chosen.arc ls)
-    (step : Chosen K arcs flow ps chosen (node_at ls 0)) (sought : place_of ls chosen.node ≡ 0) (best : Option (Best C)) (seen : Seen K arcs flow ps chosen.arc ls (length arcs) best) where
+    (step : Chosen K arcs flow ps chosen (node_at ls 0)) (sought : place_of ls chosen.node ≡ 0) (best : Option (Best C)) (seen : Sighted K arcs flow ps chosen.arc ls (length arcs) best) where
   the_arc : Arc C
   the_arc = (aim K laws arcs flow ps chosen ls fitting good step sought).0
 
@@ -100,7 +96,7 @@ module _ {C : Type 0} (K : Kind C) (laws : Laws K) (arcs : List (Arc C)) (flow :
   abbrev own : Option C
   own = own_limit_at K (reduced K ps the_arc) the_arc chosen.along (get_or flow chosen.arc (pos 0))
 
-  pub cut_done : NextIs K arcs flow ps chosen best Unlimited → Advanced K arcs flow ps ps chosen ls ls round.Cut
+  pub cut_done : NextIs K arcs flow ps chosen best None → Advanced K arcs flow ps ps chosen ls ls (Err over.Cut)
   cut_done next = record {
     long = refl;
     changed = inl refl;
@@ -110,14 +106,14 @@ module _ {C : Type 0} (K : Kind C) (laws : Laws K) (arcs : List (Arc C)) (flow :
   }
 
   -- the chosen arc's own limit comes first
-  module _ (e : C) (next : NextIs K arcs flow ps chosen best (Kilter e)) where
+  module _ (e : C) (next : NextIs K arcs flow ps chosen best (Some (Kilter e))) where
     own_first : own ≡ Some e
     own_first = (next_kilter K own best e (next the_arc aimed.is)).0
 
     pub kilter_small : K.size e ≤ change_limit
     kilter_small = own_small K laws arcs flow ps chosen ls the_arc aimed e own_first small
 
-    pub kilter_done : (qs : List C) → length qs ≡ length ps → Raised K (length ps) e (is_labelled ls) ps qs → Advanced K arcs flow ps qs chosen ls ls round.Kilter
+    pub kilter_done : (qs : List C) → length qs ≡ length ps → Raised K (length ps) e (is_labelled ls) ps qs → Advanced K arcs flow ps qs chosen ls ls (Err over.Kilter)
     kilter_done qs same raised = record {
       long = same;
       changed = inr (own_lands K laws arcs flow ps chosen ls the_arc aimed qs e raised own_first);
@@ -129,7 +125,7 @@ module _ {C : Type 0} (K : Kind C) (laws : Laws K) (arcs : List (Arc C)) (flow :
     }
 
   -- the least slack comes first
-  module _ (b : Best C) (next : NextIs K arcs flow ps chosen best (Label b)) where
+  module _ (b : Best C) (next : NextIs K arcs flow ps chosen best (Some (Label b))) where
     best_first : (best ≡ Some b) × ShortOf K own b.slack
     best_first = next_label K own best b (next the_arc aimed.is)
 
@@ -139,9 +135,9 @@ module _ {C : Type 0} (K : Kind C) (laws : Laws K) (arcs : List (Arc C)) (flow :
     pub label_small : K.size b.slack ≤ change_limit
     label_small =
         let (a, x, s) = found in
-        rise_small K laws ps a b.along b.slack (slack_is K laws (reduced K ps a) b.slack a b.along (get_or flow b.arc (pos 0)) s).0 (fitting b.arc a x.is) small
+        rise_small K laws ps a b.over.along b.slack (slack_is K laws (reduced K ps a) b.slack a b.over.along (get_or flow b.over.arc (pos 0)) s).0 (fitting b.over.arc a x.is) small
 
-    pub label_short : b.arc < length flow
+    pub label_short : b.over.arc < length flow
     label_short = let (a, x, s) = found in omega (arith, x.is.0, long)
 
     module _ (qs : List C) (same : length qs ≡ length ps) (raised : Raised K (length ps) b.slack (is_labelled ls) ps qs) where
@@ -151,20 +147,20 @@ module _ {C : Type 0} (K : Kind C) (laws : Laws K) (arcs : List (Arc C)) (flow :
       pub label_good : Good K arcs flow qs chosen.arc ls
       label_good = good_raised K arcs flow ps qs chosen.arc b.slack ls same raised good
 
-      pub label_ripe : Ripe K arcs flow qs chosen.arc ls b.arc b.along
+      pub label_ripe : Ripe K arcs flow qs chosen.arc ls b.over
       label_ripe = ripe_raised K laws arcs flow ps qs chosen.arc ls b.slack raised b refl fitting found
 
       lands : Risen K (length ps) ls ps qs
       lands =
           let (a, x, s) = found in
-          let w = crossed ls a b.along x.leads in
-          landing K laws ls ps qs a b.along b.slack (slack_is K laws (reduced K ps a) b.slack a b.along (get_or flow b.arc (pos 0)) s).0 (fitting b.arc a x.is)
-          (lt-ltb 0 (place_of ls (near a b.along)) w.0) (le-ltb 0 (place_of ls (far a b.along)) (let z = w.1 in omega arith)) raised
+          let w = crossed ls a b.over.along x.leads in
+          landing K laws ls ps qs a b.over.along b.slack (slack_is K laws (reduced K ps a) b.slack a b.over.along (get_or flow b.over.arc (pos 0)) s).0 (fitting b.over.arc a x.is)
+          (lt-ltb 0 (place_of ls (near a b.over.along)) w.0) (le-ltb 0 (place_of ls (far a b.over.along)) (let z = w.1 in omega arith)) raised
 
       up : K.le K.zero b.slack ≡ true
-      up = let (a, x, s) = found in (slack_is K laws (reduced K ps a) b.slack a b.along (get_or flow b.arc (pos 0)) s).1
+      up = let (a, x, s) = found in (slack_is K laws (reduced K ps a) b.slack a b.over.along (get_or flow b.over.arc (pos 0)) s).1
 
-      pub label_done : (ms : Labels) → Good K arcs flow qs chosen.arc ms → Grown ls ms → ms.count ≡ ls.count + 1 → Advanced K arcs flow ps qs chosen ls ms round.Labelled
+      pub label_done : (ms : Labels) → Good K arcs flow qs chosen.arc ms → Grown ls ms → count ms ≡ count ls + 1 → Advanced K arcs flow ps qs chosen ls ms (Ok tt)
       label_done ms more-good grown more = record {
         long = same;
         changed = inr lands;

@@ -11,21 +11,21 @@ use Rattle.flows.proofs.Shifts.{SmallInside}
 use Rattle.labels.specs.declared.labelling.Labels.{Labels}
 use Rattle.reach.specs.declared.scans.Best.{Best}
 use Rattle.reach.specs.declared.rises.Rise.{Rise}
-use Rattle.reach.specs.declared.rises.Rise.TheVariants.{Label, Kilter, Unlimited}
+use Rattle.reach.specs.declared.rises.Rise.TheVariants.{Label, Kilter}
 use Rattle.reach.specs.Scans.{is_labelled}
 
 -- the rise that brings an arc of reduced cost c to zero, where its flow is within its bounds; outside them no rise brings it into kilter
 abbrev pub own_limit_at : {C : Type 0} → Kind C → C → Arc C → Bool → ℤ → Option C
 own_limit_at K c a along f = cond (int_lt f a.lo || int_lt a.hi f) None (Some (cond along (K.neg c) c))
 
--- the lesser of the own limit and the least slack
-abbrev pub next_of : {C : Type 0} → Kind C → Option C → Option (Best C) → Rise C
-next_of K None None = Unlimited
-next_of K None (Some b) = Label b
-next_of K (Some c) None = Kilter c
-next_of K (Some c) (Some b) = cond (K.le c b.slack) (Kilter c) (Label b)
+-- the lesser of the own limit and the least slack; none where there is neither
+abbrev pub next_of : {C : Type 0} → Kind C → Option C → Option (Best C) → Option (Rise C)
+next_of K None None = None
+next_of K None (Some b) = Some (Label b)
+next_of K (Some c) None = Some (Kilter c)
+next_of K (Some c) (Some b) = Some (cond (K.le c b.slack) (Kilter c) (Label b))
 
-abbrev pub NextIs : {C : Type 0} → Kind C → List (Arc C) → List ℤ → List C → Step → Option (Best C) → Rise C → Type 0
+abbrev pub NextIs : {C : Type 0} → Kind C → List (Arc C) → List ℤ → List C → Step → Option (Best C) → Option (Rise C) → Type 0
 NextIs {C} K arcs flow prices chosen best r = (a : Arc C) → IsAt arcs chosen.arc a →
     r ≡ next_of K (own_limit_at K (reduced K prices a) a chosen.along (slice_index_or flow chosen.arc (pos 0))) best
 

@@ -1,5 +1,5 @@
 -- What the search for one chain owes: how prices change, and how it ends.
-use Rattle.std.specs.Prelude.{◌≡◌, ℕ, ◌+◌, ◌≤◌, false, List, length, ℤ, pos, slice_index_or}
+use Rattle.std.specs.Prelude.{◌≡◌, ℕ, ◌+◌, ◌≤◌, false, List, length, ℤ, pos, Ok, Err, Result, slice_index_or}
 use Rattle.costs.specs.Kinds.{Kind}
 use Rattle.networks.specs.declared.network.Arc.{Arc}
 use Rattle.networks.specs.Nets.{IsAt}
@@ -9,12 +9,10 @@ use Rattle.flows.specs.Kilter.{reduced, kilter_number, out_of_kilter}
 use Rattle.flows.specs.Fits.{Bounded, found_limit}
 use Rattle.flows.proofs.Cuts.{Stuck, Strained}
 use Rattle.labels.specs.declared.labelling.Labels.{Labels}
-use Rattle.labels.specs.Good.{node_at, Labelled, Good, Grown}
+use Rattle.labels.specs.Good.{count, node_at, Labelled, Good, Grown}
 use Rattle.labels.specs.Ways.{Chosen}
-use Rattle.reach.specs.declared.rounds.Ending.{Ending}
-use Rattle.reach.specs.declared.rounds.Ending.TheVariants.{Reached, Kilter, Cut}
-use Rattle.reach.specs.declared.rounds.Round.{Round}
-use Rattle.reach.specs.declared.rounds.Round.TheVariants as round
+use Rattle.reach.specs.declared.rounds.Over.{Over}
+use Rattle.reach.specs.declared.rounds.Over.TheVariants.{Kilter, Cut}
 use Rattle.reach.specs.Scans.{is_labelled}
 use Rattle.reach.specs.Rises.{Changed}
 
@@ -44,19 +42,18 @@ pub record CutOff {C : Type 0} (arcs : List (Arc C)) (flow : List ℤ) (chosen :
   pub strained : (a : Arc C) → IsAt arcs chosen.arc a → Strained (is_labelled ls) a (slice_index_or flow chosen.arc (pos 0))
 
 -- how the search for one chain ends
-abbrev pub EndsWith : {C : Type 0} → Kind C → List (Arc C) → List ℤ → List C → Step → Labels → Ending → Type 0
-EndsWith K arcs flow prices chosen ls Reached = ChainFound K arcs flow prices chosen ls
-EndsWith {C} K arcs flow prices chosen ls Kilter = (a : Arc C) → IsAt arcs chosen.arc a → out_of_kilter K (reduced K prices a) a (slice_index_or flow chosen.arc (pos 0)) ≡ false
-EndsWith K arcs flow prices chosen ls Cut = CutOff arcs flow chosen ls
+abbrev pub EndsWith : {C : Type 0} → Kind C → List (Arc C) → List ℤ → List C → Step → Labels → Result (Unit {0}) Over → Type 0
+EndsWith K arcs flow prices chosen ls (Ok _) = ChainFound K arcs flow prices chosen ls
+EndsWith {C} K arcs flow prices chosen ls (Err Kilter) = (a : Arc C) → IsAt arcs chosen.arc a → out_of_kilter K (reduced K prices a) a (slice_index_or flow chosen.arc (pos 0)) ≡ false
+EndsWith K arcs flow prices chosen ls (Err Cut) = CutOff arcs flow chosen ls
 
 -- how a round ends, with the labels ls before it and ms after
-abbrev pub RoundEnds : {C : Type 0} → Kind C → List (Arc C) → List ℤ → List C → Step → Labels → Labels → Round → Type 0
-RoundEnds K arcs flow prices chosen ls ms round.Labelled = Good K arcs flow prices chosen.arc ms × Chosen K arcs flow prices chosen (node_at ms 0) × (ms.count ≡ ls.count + 1)
-RoundEnds K arcs flow prices chosen ls ms round.Kilter = EndsWith K arcs flow prices chosen ms Kilter
-RoundEnds K arcs flow prices chosen ls ms round.Cut = EndsWith K arcs flow prices chosen ms Cut
+abbrev pub RoundEnds : {C : Type 0} → Kind C → List (Arc C) → List ℤ → List C → Step → Labels → Labels → Result (Unit {0}) Over → Type 0
+RoundEnds K arcs flow prices chosen ls ms (Ok _) = Good K arcs flow prices chosen.arc ms × Chosen K arcs flow prices chosen (node_at ms 0) × (count ms ≡ count ls + 1)
+RoundEnds K arcs flow prices chosen ls ms (Err over) = EndsWith K arcs flow prices chosen ms (Err over)
 
 -- what a round does
-pub record Advanced {C : Type 0} (K : Kind C) (arcs : List (Arc C)) (flow : List ℤ) (ps qs : List C) (chosen : Step) (ls ms : Labels) (r : Round) : Type 0 where
+pub record Advanced {C : Type 0} (K : Kind C) (arcs : List (Arc C)) (flow : List ℤ) (ps qs : List C) (chosen : Step) (ls ms : Labels) (r : Result (Unit {0}) Over) : Type 0 where
   pub long : length qs ≡ length ps
   pub changed : Changed K (length ps) ls ps qs
   pub eased : NoHigher K arcs flow ps qs

@@ -5,4 +5,4 @@ mod rises;
 mod rounds;
 mod scans;
 
-pub use rounds::{Ending, reach};
+pub use rounds::{Over, reach};

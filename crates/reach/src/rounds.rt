@@ -3,30 +3,22 @@
 ghost use Rattle.std.specs.Prelude.{◌≡◌, ℕ, ◌<◌, ◌≤◌, length};
 ghost use Rattle.networks.specs.Nets.{shown};
 ghost use Rattle.flows.specs.Fits.{Fitting, Bounded, price_limit};
-ghost use Rattle.labels.specs.Good.{Good, node_at, place_of};
+ghost use Rattle.labels.specs.Good.{Good, count, node_at, place_of};
 ghost use Rattle.labels.specs.Ways.{Chosen};
-ghost use Rattle.reach.specs.Scans.{Seen};
+ghost use Rattle.reach.specs.Scans.{Sighted};
 ghost use Rattle.reach.specs.Rounds.{large, Repriced, EndsWith, Advanced};
 
 use crate::rises::{Rise, next_rise, raise};
-use crate::scans::{Best, Scan, link, look_round};
+use crate::scans::{Best, link, look_round};
 use costs::CostKind;
-use flows::Step;
-use labels::{Labels, label};
+use flows::{Step, View};
+use labels::{Aim, Labels, label};
 use networks::Network;
+use std::ops::ControlFlow;
 
-// How a round of reach ends: a node more is labelled, the chosen arc is in kilter, or nothing limits the prices.
+// Why the sought node is not reached: the chosen arc is in kilter, or nothing limits the prices.
 #[derive(Clone, Copy)]
-pub enum Round {
-    Labelled,
-    Kilter,
-    Cut,
-}
-
-// How reach ends.
-#[derive(Clone, Copy)]
-pub enum Ending {
-    Reached,
+pub enum Over {
     Kilter,
     Cut,
 }
@@ -39,7 +31,7 @@ fn change<N: Network>(
     chosen: Step,
     best: Option<Best<N::Cost>>,
     labels: &mut Labels,
-) -> Round
+) -> Result<(), Over>
     requires fitting { Fitting N.Cost.CostKind.kind (length prices.old) (shown (N.meaning net.now)) }
     requires moderate { Bounded N.Cost.CostKind.kind price_limit prices.old }
     requires few { length prices.old ≤ 256 }
@@ -47,19 +39,23 @@ fn change<N: Network>(
     requires good { Good N.Cost.CostKind.kind (shown (N.meaning net.now)) flow.now prices.old chosen.arc labels.old }
     requires chosen { Chosen N.Cost.CostKind.kind (shown (N.meaning net.now)) flow.now prices.old chosen (node_at labels.old 0) }
     requires sought { place_of labels.old chosen.node ≡ 0 }
-    requires seen { Seen N.Cost.CostKind.kind (shown (N.meaning net.now)) flow.now prices.old chosen.arc labels.old (length (shown (N.meaning net.now))) best }
+    requires sighted { Sighted N.Cost.CostKind.kind (shown (N.meaning net.now)) flow.now prices.old chosen.arc labels.old (length (shown (N.meaning net.now))) best }
     ensures { Advanced N.Cost.CostKind.kind (shown (N.meaning net.now)) flow.now prices.old prices.new chosen labels.old labels.new result }
 {
-    match next_rise(net, flow, prices, chosen, best) {
-        Rise::Unlimited => Round::Cut,
+    let aim = Aim {
+        view: View { net, flow, prices },
+        chosen,
+    };
+    match next_rise(&aim, best).ok_or(Over::Cut)? {
         Rise::Kilter(by) => {
             raise(prices, labels, by);
-            Round::Kilter
+            Err(Over::Kilter)
         }
         Rise::Label(b) => {
+            let arc = aim.view.arc(b.over.arc);
             raise(prices, labels, b.slack);
-            link(net, flow, prices, chosen.arc, b.arc, b.along, labels);
-            Round::Labelled
+            link(arc, b.over, labels);
+            Ok(())
         }
     }
 }
@@ -71,7 +67,7 @@ fn advance<N: Network>(
     prices: &mut [N::Cost],
     chosen: Step,
     labels: &mut Labels,
-) -> Round
+) -> Result<(), Over>
     requires fitting { Fitting N.Cost.CostKind.kind (length prices.old) (shown (N.meaning net.now)) }
     requires moderate { Bounded N.Cost.CostKind.kind price_limit prices.old }
     requires few { length prices.old ≤ 256 }
@@ -81,12 +77,16 @@ fn advance<N: Network>(
     requires sought { place_of labels.old chosen.node ≡ 0 }
     ensures { Advanced N.Cost.CostKind.kind (shown (N.meaning net.now)) flow.now prices.old prices.new chosen labels.old labels.new result }
 {
-    match look_round(net, flow, prices, chosen.arc, labels) {
-        Scan::Open(i, along) => {
-            link(net, flow, prices, chosen.arc, i, along, labels);
-            Round::Labelled
+    let aim = Aim {
+        view: View { net, flow, prices },
+        chosen,
+    };
+    match look_round(&aim, labels) {
+        ControlFlow::Break(over) => {
+            link(aim.view.arc(over.arc), over, labels);
+            Ok(())
         }
-        Scan::Shut(best) => change(net, flow, prices, chosen, best, labels),
+        ControlFlow::Continue(best) => change(net, flow, prices, chosen, best, labels),
     }
 }
 
@@ -97,14 +97,14 @@ pub fn reach<N: Network>(
     prices: &mut [N::Cost],
     chosen: Step,
     labels: &mut Labels,
-) -> Ending
+) -> Result<(), Over>
     requires fitting { Fitting N.Cost.CostKind.kind (length prices.old) (shown (N.meaning net.now)) }
     requires few { length prices.old ≤ 256 }
     requires tame { Bounded N.Cost.CostKind.kind large prices.old }
     requires long { length flow.now ≡ length (shown (N.meaning net.now)) }
     requires node { (1 ≤ chosen.node) × (chosen.node ≤ length prices.old) }
     requires good { Good N.Cost.CostKind.kind (shown (N.meaning net.now)) flow.now prices.old chosen.arc labels.old }
-    requires one { labels.old.count ≡ 1 }
+    requires one { count labels.old ≡ 1 }
     requires chosen { Chosen N.Cost.CostKind.kind (shown (N.meaning net.now)) flow.now prices.old chosen (node_at labels.old 0) }
     ensures prices { Repriced N.Cost.CostKind.kind (shown (N.meaning net.now)) flow.now prices.old prices.new }
     ensures ends { EndsWith N.Cost.CostKind.kind (shown (N.meaning net.now)) flow.now prices.new chosen labels.new result }
@@ -112,14 +112,11 @@ pub fn reach<N: Network>(
     let mut start = 0;
     // Each round labels one node more, so that the rounds end.
     'rounds: loop {
-        if label(net, flow, prices, chosen.arc, chosen.node, start, labels) {
-            return Ending::Reached;
+        let view = View { net, flow, prices };
+        if label(&Aim { view, chosen }, start, labels) {
+            return Ok(());
         }
-        start = labels.count;
-        match advance(net, flow, prices, chosen, labels) {
-            Round::Labelled => {}
-            Round::Kilter => return Ending::Kilter,
-            Round::Cut => return Ending::Cut,
-        }
+        start = labels.entries.len();
+        advance(net, flow, prices, chosen, labels)?;
     }
 }

@@ -1,187 +1,141 @@
 // The arcs between the labelled nodes and the others: one that may move at once, or the one with the least slack.
 
-ghost use Rattle.std.specs.Prelude.{◌≡◌, ℕ, ◌+◌, ◌-◌, ◌<◌, ◌≤◌, Bool, true, false, cond, length};
-ghost use Rattle.networks.specs.Nets.{shown};
+ghost use Rattle.std.specs.Prelude.{◌≡◌, ℕ, ◌+◌, ◌-◌, ◌<◌, ◌≤◌, length};
+ghost use Rattle.networks.specs.Nets.{shown, IsAt};
 ghost use Rattle.flows.specs.Flows.{Ends};
-ghost use Rattle.flows.specs.Fits.{Fitting, Bounded, price_limit};
-ghost use Rattle.labels.specs.Good.{Good, Grown};
-ghost use Rattle.reach.specs.Scans.{Ripe, crossing_at, slack_at, nearer_of, sight_of, Seen, Scanned};
+ghost use Rattle.flows.specs.Laps.{near};
+ghost use Rattle.labels.specs.Good.{Labelled, count, pushed};
+ghost use Rattle.reach.specs.Scans.{crossing_at, slack_at, nearer_of, sight_of, Sighted, Scanned, link_over};
 
 use costs::CostKind;
-use flows::{Step, opposite, reduced};
-use labels::{Entry, Labels, far_end, may, push};
+use flows::{Seen, Step, opposite};
+use labels::{Aim, Entry, Labels, far_end, may};
 use networks::{Arc, Network};
+use std::ops::ControlFlow;
+
+// An arc by its place, and the way in which it leads from the labelled nodes to the others.
+#[derive(Clone, Copy)]
+pub struct Crossing {
+    pub arc: usize,
+    pub along: bool,
+}
 
 // An arc that may move once the prices have risen by the slack.
 #[derive(Clone, Copy)]
 pub struct Best<C> {
     pub slack: C,
-    pub arc: usize,
-    pub along: bool,
-}
-
-// An arc that may move at once, or the one with the least slack.
-#[derive(Clone, Copy)]
-pub enum Scan<C> {
-    Open(usize, bool),
-    Shut(Option<Best<C>>),
+    pub over: Crossing,
 }
 
 // The way in which an arc leads from the labelled nodes to the others.
-fn crossing<C: CostKind>(arc: Arc<C>, labels: &Labels) -> Option<bool>
+fn way_across<C: CostKind>(arc: Arc<C>, labels: &Labels) -> Option<bool>
     requires { Ends 256 arc }
     ensures { result ≡ crossing_at labels.now arc }
 {
-    let to = labels.places[arc.to - 1] > 0;
-    if labels.places[arc.from - 1] > 0 {
-        if to { None } else { Some(true) }
-    } else {
-        if to { Some(false) } else { None }
+    match (labels.place(arc.from) > 0, labels.place(arc.to) > 0) {
+        (true, false) => Some(true),
+        (false, true) => Some(false),
+        _ => None,
     }
 }
 
 // By how much prices may rise before the arc may move.
-fn slack<C: CostKind>(arc: Arc<C>, c: C, along: bool, f: i32) -> Option<C>
-    requires { C.CostKind.kind.size c ≤ 4000000000000000 }
-    ensures { result ≡ slack_at C.CostKind.kind c arc along f }
+fn slack<C: CostKind>(seen: Seen<C>, along: bool) -> Option<C>
+    requires { C.CostKind.kind.size seen.cost ≤ 4000000000000000 }
+    ensures { result ≡ slack_at C.CostKind.kind seen.cost seen.arc along seen.flow }
 {
+    let Seen { arc, cost, flow } = seen;
     if along {
-        if c.at_most(C::zero()) {
-            return None;
+        if cost.at_most(C::zero()) || flow >= arc.hi {
+            None
+        } else {
+            Some(cost)
         }
-        return if f < arc.hi { Some(c) } else { None };
+    } else if C::zero().at_most(cost) || flow <= arc.lo {
+        None
+    } else {
+        Some(opposite(cost))
     }
-    if C::zero().at_most(c) {
-        return None;
-    }
-    if arc.lo < f {
-        return Some(opposite(c));
-    }
-    None
 }
 
 fn nearer<C: CostKind>(best: Option<Best<C>>, b: Best<C>) -> Best<C>
     ensures { result ≡ nearer_of C.CostKind.kind best b }
 {
-    let Some(d) = best else {
-        return b;
-    };
-    if d.slack.at_most(b.slack) { d } else { b }
-}
-
-// What arc i, which leads across that way, makes of the best so far.
-fn sight<C: CostKind>(
-    arc: Arc<C>,
-    c: C,
-    along: bool,
-    f: i32,
-    i: usize,
-    best: Option<Best<C>>,
-) -> Scan<C>
-    requires { C.CostKind.kind.size c ≤ 4000000000000000 }
-    ensures { result ≡ sight_of C.CostKind.kind c arc along f i best }
-{
-    if may(arc, c, along, f) {
-        return Scan::Open(i, along);
+    match best {
+        Some(d) if d.slack.at_most(b.slack) => d,
+        _ => b,
     }
-    let Some(slack) = slack(arc, c, along, f) else {
-        return Scan::Shut(best);
-    };
-    Scan::Shut(Some(nearer(
-        best,
-        Best {
-            slack,
-            arc: i,
-            along,
-        },
-    )))
 }
 
-// Looks at the arc after i.
+// What the arc at i, which leads across that way, makes of the best so far; it ends the scan where it may move at once.
+fn sight<C: CostKind>(
+    seen: Seen<C>,
+    over: Crossing,
+    best: Option<Best<C>>,
+) -> ControlFlow<Crossing, Option<Best<C>>>
+    requires { C.CostKind.kind.size seen.cost ≤ 4000000000000000 }
+    ensures { result ≡ sight_of C.CostKind.kind seen.cost seen.arc over seen.flow best }
+{
+    if may(seen, over.along) {
+        return ControlFlow::Break(over);
+    }
+    let Some(slack) = slack(seen, over.along) else {
+        return ControlFlow::Continue(best);
+    };
+    ControlFlow::Continue(Some(nearer(best, Best { slack, over })))
+}
+
+// Looks at the arc at i.
 fn look<N: Network>(
-    net: &N,
-    flow: &[i32],
-    prices: &[N::Cost],
-    chosen: usize,
+    aim: &Aim<N>,
     labels: &Labels,
     i: usize,
     best: Option<Best<N::Cost>>,
-) -> Scan<N::Cost>
-    requires fitting { Fitting N.Cost.CostKind.kind (length prices.now) (shown (N.meaning net.now)) }
-    requires moderate { Bounded N.Cost.CostKind.kind price_limit prices.now }
-    requires few { length prices.now ≤ 256 }
-    requires long { length flow.now ≡ length (shown (N.meaning net.now)) }
-    requires arc { i < length flow.now }
-    requires seen { Seen N.Cost.CostKind.kind (shown (N.meaning net.now)) flow.now prices.now chosen labels.now i best }
-    ensures { Scanned N.Cost.CostKind.kind (shown (N.meaning net.now)) flow.now prices.now chosen labels.now (i + 1) result }
+) -> ControlFlow<Crossing, Option<Best<N::Cost>>>
+    requires arc { i < length aim.now.view.flow.now }
+    requires sighted { Sighted N.Cost.CostKind.kind (shown (N.meaning aim.now.view.net.now)) aim.now.view.flow.now aim.now.view.prices.now aim.now.chosen.arc labels.now i best }
+    ensures { Scanned N.Cost.CostKind.kind (shown (N.meaning aim.now.view.net.now)) aim.now.view.flow.now aim.now.view.prices.now aim.now.chosen.arc labels.now (i + 1) result }
 {
-    if i == chosen {
-        return Scan::Shut(best);
+    if i == aim.chosen.arc {
+        return ControlFlow::Continue(best);
     }
-    let Some(arc) = net.arc(i + 1) else {
-        return Scan::Shut(best);
+    let arc = aim.view.arc(i);
+    let Some(along) = way_across(arc, labels) else {
+        return ControlFlow::Continue(best);
     };
-    let Some(along) = crossing(arc, labels) else {
-        return Scan::Shut(best);
-    };
-    let c = reduced(arc, prices);
-    sight(arc, c, along, flow[i], i, best)
+    sight(aim.view.see(i, arc), Crossing { arc: i, along }, best)
 }
 
 // Looks at every arc between the labelled nodes and the others.
 pub fn look_round<N: Network>(
-    net: &N,
-    flow: &[i32],
-    prices: &[N::Cost],
-    chosen: usize,
+    aim: &Aim<N>,
     labels: &Labels,
-) -> Scan<N::Cost>
-    requires fitting { Fitting N.Cost.CostKind.kind (length prices.now) (shown (N.meaning net.now)) }
-    requires moderate { Bounded N.Cost.CostKind.kind price_limit prices.now }
-    requires few { length prices.now ≤ 256 }
-    requires long { length flow.now ≡ length (shown (N.meaning net.now)) }
-    ensures { Scanned N.Cost.CostKind.kind (shown (N.meaning net.now)) flow.now prices.now chosen labels.now (length (shown (N.meaning net.now))) result }
+) -> ControlFlow<Crossing, Option<Best<N::Cost>>>
+    ensures { Scanned N.Cost.CostKind.kind (shown (N.meaning aim.now.view.net.now)) aim.now.view.flow.now aim.now.view.prices.now aim.now.chosen.arc labels.now (length (shown (N.meaning aim.now.view.net.now))) result }
 {
     let mut best = None;
-    for i in 0..net.arcs() {
-        match look(net, flow, prices, chosen, labels, i, best) {
-            Scan::Open(a, along) => return Scan::Open(a, along),
-            Scan::Shut(b) => best = b,
-        }
+    for i in 0..aim.view.flow.len() {
+        best = look(aim, labels, i, best)?;
     }
-    Scan::Shut(best)
+    ControlFlow::Continue(best)
 }
 
-// Labels the far end of an arc that leads across and may move.
-pub fn link<N: Network>(
-    net: &N,
-    flow: &[i32],
-    prices: &[N::Cost],
-    chosen: usize,
-    i: usize,
-    along: bool,
-    labels: &mut Labels,
-)
-    requires fitting { Fitting N.Cost.CostKind.kind (length prices.now) (shown (N.meaning net.now)) }
-    requires few { length prices.now ≤ 256 }
-    requires long { length flow.now ≡ length (shown (N.meaning net.now)) }
-    requires short { i < length flow.now }
-    requires good { Good N.Cost.CostKind.kind (shown (N.meaning net.now)) flow.now prices.now chosen labels.old }
-    requires ripe { Ripe N.Cost.CostKind.kind (shown (N.meaning net.now)) flow.now prices.now chosen labels.old i along }
-    ensures good { Good N.Cost.CostKind.kind (shown (N.meaning net.now)) flow.now prices.now chosen labels.new }
-    ensures grown { Grown labels.old labels.new }
-    ensures more { labels.new.count ≡ labels.old.count + 1 }
+// Labels the far end of an arc at i that leads across that way.
+pub fn link<C: CostKind>(arc: Arc<C>, over: Crossing, labels: &mut Labels)
+    requires ends { Ends 256 arc }
+    requires near { Labelled labels.old (near arc over.along) }
+    requires room { count labels.old < 256 }
+    ensures { labels.new ≡ pushed labels.old (link_over labels.old arc over) }
 {
-    let Some(arc) = net.arc(i + 1) else {
-        return;
-    };
+    let Crossing { arc: i, along } = over;
     let near = far_end(arc, !along);
-    let node = far_end(arc, along);
-    let parent = labels.places[near - 1] - 1;
-    let step = Step {
-        node: near,
-        arc: i,
-        along,
-    };
-    push(labels, Entry { node, parent, step });
+    labels.push(Entry {
+        node: far_end(arc, along),
+        parent: labels.place(near) - 1,
+        step: Step {
+            node: near,
+            arc: i,
+            along,
+        },
+    });
 }

@@ -1,7 +1,22 @@
+use Rattle.std.proofs.Common.{subst}
 use Rattle.networks.specs.Nets.{shown}
+use Rattle.reach.specs.Scans.{Scanned}
+use Rattle.reach.proofs.Ripening.{link_room, link_good, link_grown, link_more}
 use Rattle.reach.proofs.Turning.{open_done}
 use Rattle.reach.proofs.rounds.advance.Goals as goal
 
-pub returns-in-Open : goal.returns-in-Open
-returns-in-Open g c = open_done g.N.Cost.CostKind.kind (shown (g.N.Network.meaning c.args.net.now)) c.args.flow.now c.args.prices.now c.args.chosen c.args.labels.now c.link.new.labels
-    c.requires.good.some c.requires.chosen c.requires.long c.link.ensures.good c.link.ensures.grown c.link.ensures.more
+pub link-requires-clause-room : goal.link-requires-clause-room
+link-requires-clause-room g c =
+    let K = g.N.Cost.CostKind.kind in
+    let arcs = shown (g.N.Network.meaning c.args.net.now) in
+    let ripe = subst (Scanned K arcs c.args.flow.now c.args.prices.now c.args.chosen.arc c.args.labels.now _) c.in-Break.is c.look_round.ensures in
+    link_room K arcs c.args.flow.now c.args.prices.now c.args.chosen.arc c.requires.few c.args.labels.now c.requires.good c.requires.fitting c.in-Break.over ripe c.arc.result c.arc.ensures.is
+
+pub returns-in-Break : goal.returns-in-Break
+returns-in-Break g c =
+    let K = g.N.Cost.CostKind.kind in
+    let arcs = shown (g.N.Network.meaning c.args.net.now) in
+    let ripe = subst (Scanned K arcs c.args.flow.now c.args.prices.now c.args.chosen.arc c.args.labels.now _) c.in-Break.is c.look_round.ensures in
+    let ms = c.link.new.labels in
+    let e = c.link.ensures in
+    open_done K arcs c.args.flow.now c.args.prices.now c.args.chosen c.args.labels.now ms c.requires.good.some c.requires.chosen c.requires.long (link_good K arcs c.args.flow.now c.args.prices.now c.args.chosen.arc c.requires.few c.args.labels.now c.requires.good c.requires.fitting c.in-Break.over ripe c.arc.result c.arc.ensures.is ms e) (link_grown K arcs c.args.flow.now c.args.prices.now c.args.chosen.arc c.requires.few c.args.labels.now c.requires.good c.requires.fitting c.in-Break.over ripe c.arc.result c.arc.ensures.is ms e) (link_more K arcs c.args.flow.now c.args.prices.now c.args.chosen.arc c.requires.few c.args.labels.now c.requires.good c.requires.fitting c.in-Break.over ripe c.arc.result c.arc.ensures.is ms e)

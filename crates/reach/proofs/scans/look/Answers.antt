@@ -1,45 +1,28 @@
-use Rattle.std.proofs.Common.{◌+◌, get_or, pos, sym, ap, ◌∙◌, subst, arith, w32, SFits, rules}
-use Rattle.std.proofs.lemmas.Int.{to_z-of_z}
+use Rattle.std.proofs.Common.{◌+◌, get_or, pos, sym, ap, ◌∙◌, subst}
 use Rattle.networks.specs.Nets.{shown}
-use Rattle.networks.proofs.Shown.{arc_is, never_absent, length_shown}
+use Rattle.flows.specs.Kilter.{reduced}
+use Rattle.reach.specs.declared.scans.Crossing.{Crossing}
 use Rattle.reach.specs.Scans.{sight_of, Scanned}
 use Rattle.reach.proofs.Sights.{seen_aside, sighted}
 use Rattle.reach.proofs.scans.look.Goals as goal
 
 pub returns-in_default : goal.returns-in_default
-returns-in_default g c = absurd (never_absent (g.N.Network.meaning c.args.net.now) c.args.i (omega (arith, length_shown (g.N.Network.meaning c.args.net.now))) c.in_default.ensures)
-
-pub crossing-requires : goal.crossing-requires
-crossing-requires g c =
-    let f = c.requires.fitting c.args.i c.in-Some.arc (arc_is (g.N.Network.meaning c.args.net.now) c.args.i c.in-Some.arc c.in-Some.ensures) in
-    let e = f.ends in
-    (e.0, omega (arith, e.1), e.2, omega (arith, e.3))
-
-pub returns-in_default-crossing : goal.returns-in_default-crossing
-returns-in_default-crossing g c =
-    let arcs = shown (g.N.Network.meaning c.args.net.now) in
-    seen_aside g.N.Cost.CostKind.kind g.met.N.Cost.CostKind.lawful arcs c.args.flow.now c.args.prices.now c.args.chosen c.args.labels.now c.args.i c.args.best c.requires.seen c.in-Some.arc
-    (arc_is (g.N.Network.meaning c.args.net.now) c.args.i c.in-Some.arc c.in-Some.ensures) c.in_default-crossing.ensures
-
-pub reduced-c-requires : goal.reduced-c-requires
-reduced-c-requires g c = record {
-  fits = c.requires.fitting c.args.i c.in-Some.arc (arc_is (g.N.Network.meaning c.args.net.now) c.args.i c.in-Some.arc c.in-Some.ensures);
-  moderate = c.requires.moderate;
-}
-
-pub sight-requires : goal.sight-requires
-sight-requires g c = omega (arith, c.reduced-c.ensures.small)
+returns-in_default g c =
+    let v = c.args.aim.now.view in
+    seen_aside g.N.Cost.CostKind.kind g.met.N.Cost.CostKind.lawful (shown (g.N.Network.meaning v.net.now)) v.flow.now v.prices.now c.args.aim.now.chosen.arc c.args.labels.now c.args.i c.args.best c.requires.sighted c.arc-arc.result
+    c.arc-arc.ensures.is (sym c.in_default.is ∙ c.way_across.ensures)
 
 pub returns : goal.returns
 returns g c =
     let K = g.N.Cost.CostKind.kind in
-    let arcs = shown (g.N.Network.meaning c.args.net.now) in
-    let a = c.in-Some.arc in
+    let v = c.args.aim.now.view in
+    let arcs = shown (g.N.Network.meaning v.net.now) in
+    let a = c.arc-arc.result in
     let i = c.args.i in
-    let along = c.in-Some-crossing.along in
-    let x = get_or c.args.flow.now i (pos 0) in
-    let f : SFits w32 (get_or c.args.flow.now c.args.i (pos 0)) = search rules in
-    subst (Scanned K arcs c.args.flow.now c.args.prices.now c.args.chosen c.args.labels.now (i + 1))
-    (sym (simp to_z-of_z at c.sight.ensures ∙ ap (λ z. sight_of K z a along x i c.args.best) c.reduced-c.ensures.value))
-    (sighted K g.met.N.Cost.CostKind.lawful arcs c.args.flow.now c.args.prices.now c.args.chosen c.args.labels.now i c.args.best c.requires.seen a
-    (arc_is (g.N.Network.meaning c.args.net.now) i a c.in-Some.ensures) along c.in-Some-crossing.ensures c.if-i-chosen.false)
+    let x : Crossing = record { arc = i; along = c.in-Some.along } in
+    let s = c.see.result in
+    let sees = c.see.ensures.sees in
+    subst (Scanned K arcs v.flow.now v.prices.now c.args.aim.now.chosen.arc c.args.labels.now (i + 1))
+    (sym (c.sight.ensures ∙ ap (λ z. sight_of K z s.arc x s.flow c.args.best) sees.priced ∙ ap (λ z. sight_of K (reduced K v.prices.now s.arc) s.arc x z c.args.best) sees.carries ∙ ap (λ z. sight_of K (reduced K v.prices.now z) z x (get_or v.flow.now i (pos 0)) c.args.best) c.see.ensures.same))
+    (sighted K g.met.N.Cost.CostKind.lawful arcs v.flow.now v.prices.now c.args.aim.now.chosen.arc c.args.labels.now i c.args.best c.requires.sighted a
+    c.arc-arc.ensures.is c.in-Some.along (sym c.in-Some.is ∙ c.way_across.ensures) c.if-i-aim.false)
