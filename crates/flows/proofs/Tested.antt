@@ -1,18 +1,21 @@
 -- A worked figure that passes a test, which computes, is right.
-use Rattle.std.proofs.Common.{◌≡◌, ℕ, zero, suc, ◌+◌, ◌-◌, ◌<◌, ◌≤◌, Bool, true, false, not, ◌&&◌, leb, List, [], ◌∷◌, length, get_or, ℤ, pos, ◌-ℤ◌, ◌<ℤ◌, sym, refl, ap, ◌∙◌, subst, ⊎_elim, arith}
+use Rattle.std.proofs.Common.{◌≡◌, ℕ, zero, suc, ◌+◌, ◌<◌, ◌≤◌, Bool, true, false, not, ◌&&◌, leb, List, [], ◌∷◌, ℤ, ◌-ℤ◌, ◌<ℤ◌, sym, subst, ⊎_elim, arith}
 use lib.Signed.{le_z, lt_z}
 use borrow.Author.Differences.{ints}
 use Rattle.std.specs.List.{AllByRecursion}
 use Rattle.std.proofs.lemmas.Bool.{and_parts, not-true, leb-true, cases_eq}
 use Rattle.costs.specs.Kinds.{Kind, Laws, sums}
 use Rattle.networks.specs.declared.network.Arc.{Arc}
-use Rattle.flows.specs.Flows.{imbalance, imbalances_from, total, EachArc, Ends, SameImbalances, Meets}
+use Rattle.flows.specs.Flows.{imbalance, imbalances_from, total, EachArc, Ends}
 use Rattle.flows.specs.Kilter.{reduced, out_of_kilter, InKilter}
 use Rattle.flows.specs.Cuts.{can_leave, must_enter, needed_from, marked}
 use Rattle.flows.specs.declared.figures.Figure.{Figure}
 use Rattle.flows.specs.declared.figures.Verdict.{Verdict}
 use Rattle.flows.specs.declared.figures.Verdict.TheVariants.{LeastFlow, NoFlow}
 use Rattle.flows.specs.Figures.{RightFlow, RightCut, RightVerdict, Right, AllRight}
+use Rattle.flows.specs.Stops.{ends_fit}
+use Rattle.flows.proofs.Fitted.{ends_hold}
+use Rattle.flows.proofs.Needing.{imbalances_long, imbalances_meet}
 use Rattle.flows.proofs.Group.{off_on}
 use Rattle.flows.proofs.Least.{kilter_is_least, kilter_within}
 use Rattle.flows.proofs.Cuts.{cut_shows_none}
@@ -37,16 +40,6 @@ one_number : (x y : ℤ) → (le_z x y && le_z y x) ≡ true → x ≡ y
 one_number x y e = let p = and_parts (le_z x y) (le_z y x) e in let l = p.0 in let r = p.1 in omega (arith, ints)
 
 module _ {C : Type 0} where
-  abbrev ends_fit : ℕ → Arc C → Bool
-  ends_fit N a = (leb 1 a.from && leb a.from N) && (leb 1 a.to && leb a.to N)
-
-  ends_pass : (N : ℕ) (a : Arc C) → ends_fit N a ≡ true → Ends N a
-  ends_pass N a e =
-      let p = and_parts (leb 1 a.from && leb a.from N) (leb 1 a.to && leb a.to N) e in
-      let q = and_parts (leb 1 a.from) (leb a.from N) p.0 in
-      let r = and_parts (leb 1 a.to) (leb a.to N) p.1 in
-      (leb-true 1 a.from q.0, leb-true a.from N q.1, leb-true 1 a.to r.0, leb-true a.to N r.1)
-
   alike_pass : (arcs : List (Arc C)) (f g : List ℤ) (k n : ℕ) → alike (imbalances_from k n arcs f) (imbalances_from k n arcs g) ≡ true → (m : ℕ) → k ≤ m → m < k + n → imbalance arcs f m ≡ imbalance arcs g m
   alike_pass arcs f g k zero e m l h = absurd (omega arith)
   alike_pass arcs f g k (suc n) e m l h =
@@ -54,29 +47,13 @@ module _ {C : Type 0} where
       ⊎_elim (λ (q : m ≡ k). subst (λ j. imbalance arcs f j ≡ imbalance arcs g j) (sym q) (one_number (imbalance arcs f k) (imbalance arcs g k) p.0))
       (λ (q : m ≡ k → ⊥). alike_pass arcs f g (suc k) n p.1 m (omega arith) (omega arith)) (cases_eq m k)
 
-  -- the imbalances as needs
-  pub imbalances_long : (arcs : List (Arc C)) (f : List ℤ) (k n : ℕ) → length (imbalances_from k n arcs f) ≡ n
-  imbalances_long arcs f k zero = refl
-  imbalances_long arcs f k (suc n) = ap suc (imbalances_long arcs f (suc k) n)
-
-  pub imbalances_at : (arcs : List (Arc C)) (f : List ℤ) (k n m : ℕ) → k ≤ m → m < k + n → imbalance arcs f m ≡ get_or (imbalances_from k n arcs f) (m - k) (pos 0)
-  imbalances_at arcs f k zero m l h = absurd (omega arith)
-  imbalances_at arcs f k (suc n) m l h = ⊎_elim
-      (λ (q : m ≡ k). let z : m - k ≡ 0 = omega arith in ap (imbalance arcs f) q ∙ sym (ap (λ i. get_or (imbalances_from k (suc n) arcs f) i (pos 0)) z))
-      (λ (q : m ≡ k → ⊥). let z : m - k ≡ suc (m - suc k) = omega arith in imbalances_at arcs f (suc k) n m (omega arith) (omega arith) ∙ sym (ap (λ i. get_or (imbalances_from k (suc n) arcs f) i (pos 0)) z)) (cases_eq m k)
-
-  pub imbalances_meet : (N : ℕ) (arcs : List (Arc C)) (f g : List ℤ) → SameImbalances N arcs f g → Meets arcs (imbalances_from 1 N arcs f) g
-  imbalances_meet N arcs f g same n l h =
-      let m : n ≤ N = subst (λ z. n ≤ z) (imbalances_long arcs f 1 N) h in
-      sym (same n l m) ∙ imbalances_at arcs f 1 N n l (omega arith)
-
   abbrev cut_passes : ℕ → List (Arc C) → List ℤ → List ℕ → Bool
   cut_passes N arcs opened marks = all (ends_fit N) arcs && (all (λ m. leb m 1) marks && lt_z (can_leave (marked marks) arcs -ℤ must_enter (marked marks) arcs) (needed_from 1 (marked marks) (imbalances_from 1 N arcs opened)))
 
   cut_is_right : (N : ℕ) (arcs : List (Arc C)) (opened : List ℤ) (marks : List ℕ) → cut_passes N arcs opened marks ≡ true → RightCut N arcs opened marks
   cut_is_right N arcs opened marks e = record {
     cut = record { bits = all_pass (λ m. leb m 1) (λ m. m ≤ 1) (λ m h. leb-true m 1 h) marks q.0; cut = less };
-    is_none = λ flow within same. cut_shows_none C arcs needs (marked marks) (subst (λ n. AllByRecursion (Ends n) arcs) (sym (imbalances_long arcs opened 1 N)) (all_pass (ends_fit N) (Ends N) (ends_pass N) arcs p.0)) less flow within (imbalances_meet N arcs opened flow same);
+    is_none = λ flow within same. cut_shows_none C arcs needs (marked marks) (subst (λ n. AllByRecursion (Ends n) arcs) (sym (imbalances_long arcs opened 1 N)) (all_pass (ends_fit N) (Ends N) (ends_hold N) arcs p.0)) less flow within (imbalances_meet N arcs opened flow same);
   }
     where
       needs : List ℤ
@@ -127,7 +104,7 @@ module _ {C : Type 0} where
         record {
           within = kilter_within K laws prices arcs flow kilter;
           same = λ n l h. alike_pass arcs opened flow 1 N r.0 n l (omega arith);
-          is_least = kilter_is_least K laws N arcs flow prices (all_pass (ends_fit N) (Ends N) (ends_pass N) arcs p.0) kilter;
+          is_least = kilter_is_least K laws N arcs flow prices (all_pass (ends_fit N) (Ends N) (ends_hold N) arcs p.0) kilter;
           total_is = laws.antisym t cost s.0 s.1;
           kilter = kilter;
         }
