@@ -2,7 +2,6 @@
 use Rattle.std.proofs.Common.{◌≡◌, ℕ, zero, suc, ◌+◌, ◌-◌, ◌<◌, ◌≤◌, Bool, true, ◌&&◌, List, [], ◌∷◌, length, get_or, ℤ, pos, nat_abs, Some, None, Option, sym, refl, ap, ◌∙◌, subst, arith}
 use lib.Signed.{le_z}
 use Rattle.std.proofs.lemmas.Int.{ints}
-use Rattle.std.proofs.lemmas.Bool.{and_parts}
 use Rattle.networks.proofs.Shown.{length_shown}
 use Rattle.flows.specs.Flows.{imbalance, Ends, Meets}
 use Rattle.costs.specs.Kinds.{Kind}
@@ -47,12 +46,9 @@ met : {C : Type 0} (arcs : List (Arc C)) (flow : List ℤ) (k : ℕ) (needs : Li
 met arcs flow k [] e j h = absurd (omega arith)
 met arcs flow k (d ∷ ds) e zero h =
     let p = passed (le_z (imbalance arcs flow k) d && le_z d (imbalance arcs flow k)) 6 k _ e in
-    let q = and_parts (le_z (imbalance arcs flow k) d) (le_z d (imbalance arcs flow k)) p.0 in
+    let same : imbalance arcs flow k ≡ d = grind (arith, ints) in
     let z : k + 0 ≡ k = omega arith in
-    ap (imbalance arcs flow) z ∙ same (imbalance arcs flow k) d q.0 q.1
-  where
-    same : (x y : ℤ) → le_z x y ≡ true → le_z y x ≡ true → x ≡ y
-    same x y a b = grind (arith, ints)
+    ap (imbalance arcs flow) z ∙ same
 met arcs flow k (d ∷ ds) e (suc j) h =
     let p = passed (le_z (imbalance arcs flow k) d && le_z d (imbalance arcs flow k)) 6 k _ e in
     let z : k + suc j ≡ suc k + j = omega arith in

@@ -57,11 +57,6 @@ module _ {C : Type 0} (K : Kind C) (laws : Laws K) where
 
   -- at a reduced cost of zero, within the bounds is in kilter
   pub zero_kilter : (c : C) (a : Arc C) (f : ℤ) → c ≡ K.zero → Within a f → out_of_kilter K c a f ≡ false
-  zero_kilter c a f e (l, h) = subst (λ z. out_of_kilter K z a f ≡ false) (sym e) (go (K.le K.zero K.zero) (le_refl K laws K.zero))
-    where
-      inside : (lo hi f : ℤ) → lo ≤ℤ f → f ≤ℤ hi → off true true lo hi f ≡ false
-      inside lo hi f l h = grind (arith, ints)
-
-      go : (b : Bool) → b ≡ true → off b b a.lo a.hi f ≡ false
-      go true _ = inside a.lo a.hi f l h
-      go false t = off_on t
+  zero_kilter c a f e (l, h) =
+      let zero = le_refl K laws K.zero in
+      subst (λ z. out_of_kilter K z a f ≡ false) (sym e) (grind (arith, ints))
