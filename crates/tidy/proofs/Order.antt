@@ -1,5 +1,5 @@
 -- The nearest of the slacks.
-use Rattle.std.proofs.Common.{◌≡◌, ℕ, Bool, true, false, cond, List, [], ◌∷◌, Some, None, Option, sym, refl, subst, arith}
+use Rattle.std.proofs.Common.{◌≡◌, ℕ, Bool, true, false, cond, List, [], ◌∷◌, Some, None, Option, refl, subst, arith}
 use Rattle.std.specs.List.{AllByRecursion}
 use Rattle.networks.specs.declared.network.Arc.{Arc}
 use Rattle.costs.specs.Kinds.{Kind, Laws}
@@ -66,9 +66,5 @@ module _ {C : Type 0} (K : Kind C) (laws : Laws K) where
     where
       neither : (best s : Option (Pick C)) → chosen K best s ≡ None → (best ≡ None) × (s ≡ None)
       neither best None h = (h, refl)
-      neither None (Some q) h = some_none (sym h)
-      neither (Some b) (Some q) h = go (nearer K b.far q.far) h
-        where
-          go : (t : Bool) → cond t (Some b) (Some q) ≡ None → (Some b ≡ None) × (Some q ≡ None)
-          go true e = some_none (sym e)
-          go false e = some_none (sym e)
+      neither None (Some q) h = grind arith
+      neither (Some b) (Some q) h = grind arith
