@@ -1,5 +1,5 @@
 -- One arc more of an imbalance.
-use Rattle.std.proofs.Common.{◌≡◌, ℕ, suc, ◌+◌, ◌*◌, ◌≤◌, ◌⊎◌, Bool, true, false, cond, eqb, List, [], ◌∷◌, length, ℤ, pos, negsuc, ◌+ℤ◌, ◌-ℤ◌, nat_abs, sym, ◌∙◌, ap₂, arith, w32, SFits}
+use Rattle.std.proofs.Common.{◌≡◌, ℕ, suc, ◌+◌, ◌*◌, ◌≤◌, ◌⊎◌, Bool, cond, eqb, List, [], ◌∷◌, length, ℤ, pos, negsuc, ◌+ℤ◌, ◌-ℤ◌, nat_abs, sym, ◌∙◌, ap₂, arith, w32, SFits}
 use Rattle.std.proofs.lemmas.Int.{ints}
 use Rattle.networks.specs.declared.network.Arc.{Arc}
 use Rattle.networks.specs.Limits.{flow_limit}
@@ -23,10 +23,7 @@ balance_all node arcs flow s e =
 
 -- one arc carries at most its flow past a node
 one_carries : (b c : Bool) (f x y : ℤ) → nat_abs ((cond b f (pos 0) +ℤ x) -ℤ (cond c f (pos 0) +ℤ y)) ≤ nat_abs f + nat_abs (x -ℤ y)
-one_carries true true f x y = omega (arith, ints)
-one_carries true false f x y = omega (arith, ints)
-one_carries false true f x y = omega (arith, ints)
-one_carries false false f x y = omega (arith, ints)
+one_carries b c f x y = grind (arith, ints)
 
 -- flows within the limits: an imbalance is at most the limit for each flow
 pub balance_small : {C : Type 0} (node : ℕ) (arcs : List (Arc C)) (flow : List ℤ) → Small flow → nat_abs (imbalance arcs flow node) ≤ flow_limit * length flow

@@ -1,5 +1,5 @@
 -- A cut shows that no flow within the bounds has the needs; and how a search comes to one.
-use Rattle.std.proofs.Common.{◌≡◌, ℕ, zero, suc, ◌+◌, ◌-◌, ◌<◌, ◌≤◌, Bool, true, false, cond, not, ◌&&◌, ◌⊎◌, List, [], ◌∷◌, length, get_or, ℤ, pos, ◌+ℤ◌, ◌-ℤ◌, ◌≤ℤ◌, ◌<ℤ◌, sym, refl, ap, ◌∙◌, subst, ap₂, subst₂, inl, inr, arith}
+use Rattle.std.proofs.Common.{◌≡◌, ℕ, zero, suc, ◌+◌, ◌-◌, ◌<◌, ◌≤◌, Bool, true, false, cond, not, ◌&&◌, ◌⊎◌, List, [], ◌∷◌, length, get_or, ℤ, pos, ◌+ℤ◌, ◌-ℤ◌, ◌≤ℤ◌, ◌<ℤ◌, sym, refl, ap, ◌∙◌, subst, ap₂, subst₂, arith}
 use borrow.Author.Differences.{ints}
 use Rattle.std.specs.List.{AllByRecursion}
 use Rattle.std.proofs.ByRecursion.{All-weaker}
@@ -31,31 +31,19 @@ needed_is k inside (x ∷ needs) w h =
 -- one arc more, by whether its ends are inside: what crosses is at most the bounds, at least them, more than them
 crossing : (x y : Bool) (lo hi f o i c e : ℤ) → lo ≤ℤ f → f ≤ℤ hi → (o -ℤ i) ≤ℤ (c -ℤ e) →
     ((cond x f (pos 0) +ℤ o) -ℤ (cond y f (pos 0) +ℤ i)) ≤ℤ ((cond (x && not y) hi (pos 0) +ℤ c) -ℤ (cond (y && not x) lo (pos 0) +ℤ e))
-crossing true true lo hi f o i c e l h k = omega (arith, ints)
-crossing true false lo hi f o i c e l h k = omega (arith, ints)
-crossing false true lo hi f o i c e l h k = omega (arith, ints)
-crossing false false lo hi f o i c e l h k = omega (arith, ints)
+crossing x y lo hi f o i c e l h k = grind (arith, ints)
 
 full : (x y : Bool) (lo hi f o i c e : ℤ) → ((x ≡ true → y ≡ false → hi ≤ℤ f) × (x ≡ false → y ≡ true → f ≤ℤ lo)) → (c -ℤ e) ≤ℤ (o -ℤ i) →
     ((cond (x && not y) hi (pos 0) +ℤ c) -ℤ (cond (y && not x) lo (pos 0) +ℤ e)) ≤ℤ ((cond x f (pos 0) +ℤ o) -ℤ (cond y f (pos 0) +ℤ i))
-full true true lo hi f o i c e s k = omega (arith, ints)
-full true false lo hi f o i c e s k = let h = s.0 refl refl in omega (arith, ints)
-full false true lo hi f o i c e s k = let h = s.1 refl refl in omega (arith, ints)
-full false false lo hi f o i c e s k = omega (arith, ints)
+full x y lo hi f o i c e s k = grind (arith, ints)
 
 strained : (x y : Bool) (lo hi f o i c e : ℤ) → ((x ≡ true) × (y ≡ false) × (hi <ℤ f)) ⊎ ((x ≡ false) × (y ≡ true) × (f <ℤ lo)) → (c -ℤ e) ≤ℤ (o -ℤ i) →
     ((cond (x && not y) hi (pos 0) +ℤ c) -ℤ (cond (y && not x) lo (pos 0) +ℤ e)) <ℤ ((cond x f (pos 0) +ℤ o) -ℤ (cond y f (pos 0) +ℤ i))
-strained x y lo hi f o i c e (inl (p, q, h)) k =
-    subst₂ (λ x y. ((cond (x && not y) hi (pos 0) +ℤ c) -ℤ (cond (y && not x) lo (pos 0) +ℤ e)) <ℤ ((cond x f (pos 0) +ℤ o) -ℤ (cond y f (pos 0) +ℤ i))) (sym p) (sym q) (omega (arith, ints))
-strained x y lo hi f o i c e (inr (p, q, h)) k =
-    subst₂ (λ x y. ((cond (x && not y) hi (pos 0) +ℤ c) -ℤ (cond (y && not x) lo (pos 0) +ℤ e)) <ℤ ((cond x f (pos 0) +ℤ o) -ℤ (cond y f (pos 0) +ℤ i))) (sym p) (sym q) (omega (arith, ints))
+strained x y lo hi f o i c e s k = grind (arith, ints)
 
 fuller : (x y : Bool) (lo hi f o i c e : ℤ) → ((x ≡ true → y ≡ false → hi ≤ℤ f) × (x ≡ false → y ≡ true → f ≤ℤ lo)) → (c -ℤ e) <ℤ (o -ℤ i) →
     ((cond (x && not y) hi (pos 0) +ℤ c) -ℤ (cond (y && not x) lo (pos 0) +ℤ e)) <ℤ ((cond x f (pos 0) +ℤ o) -ℤ (cond y f (pos 0) +ℤ i))
-fuller true true lo hi f o i c e s k = omega (arith, ints)
-fuller true false lo hi f o i c e s k = let h = s.0 refl refl in omega (arith, ints)
-fuller false true lo hi f o i c e s k = let h = s.1 refl refl in omega (arith, ints)
-fuller false false lo hi f o i c e s k = omega (arith, ints)
+fuller x y lo hi f o i c e s k = grind (arith, ints)
 
 module _ {C : Type 0} (inside : ℕ → Bool) where
   -- what the arcs from the nodes inside carry, and those to them

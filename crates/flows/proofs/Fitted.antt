@@ -1,13 +1,12 @@
 -- Where no stop comes, arcs and flows are within the limits.
-use Rattle.std.proofs.Common.{◌≡◌, ℕ, zero, suc, ◌+◌, ◌-◌, ◌<◌, ◌≤◌, Bool, true, false, ◌&&◌, eqb, leb, List, [], ◌∷◌, length, get_or, ℤ, pos, nat_abs, ◌≤ℤ◌, Some, None, Option, sym, refl, ap, ◌∙◌, subst, arith}
+use Rattle.std.proofs.Common.{◌≡◌, ℕ, zero, suc, ◌+◌, ◌-◌, ◌<◌, ◌≤◌, Bool, true, ◌&&◌, List, [], ◌∷◌, length, get_or, ℤ, pos, nat_abs, Some, None, Option, sym, refl, ap, ◌∙◌, subst, arith}
 use lib.Signed.{le_z}
 use Rattle.std.proofs.lemmas.Int.{ints}
-use Rattle.std.proofs.lemmas.Bool.{and_parts, leb-true, eqb-true}
 use Rattle.networks.proofs.Shown.{length_shown}
 use Rattle.flows.specs.Flows.{imbalance, Ends, Meets}
 use Rattle.costs.specs.Kinds.{Kind}
 use Rattle.networks.specs.declared.network.Arc.{Arc}
-use Rattle.networks.specs.Limits.{cost_limit, in_limits, bounds_fit, flow_limit}
+use Rattle.networks.specs.Limits.{flow_limit}
 use Rattle.networks.specs.Answers.{Told}
 use Rattle.networks.specs.Nets.{Net, shown}
 use Rattle.flows.specs.Fits.{Fit, Fitting, Small}
@@ -15,41 +14,18 @@ use Rattle.flows.specs.Stops.{stop_unless, or_else, counts_fit, lengths_fit, end
 
 -- a test that stopped nothing was passed
 passed : (b : Bool) (n k : ℕ) (later : Option Told) → stop_unless b n k later ≡ None → (b ≡ true) × (later ≡ None)
-passed true n k later e = (refl, e)
-passed false n k later e = absurd (let z : ◌≡◌ {A = ℕ} 0 1 = cc in omega arith)
+passed b n k later e = (grind arith, grind arith)
 
 neither : (o later : Option Told) → or_else o later ≡ None → (o ≡ None) × (later ≡ None)
 neither None later e = (refl, e)
 neither (Some s) later e = absurd (let z : ◌≡◌ {A = ℕ} 0 1 = cc in omega arith)
 
-in_order : (x y : ℤ) → le_z x y ≡ true → x ≤ℤ y
-in_order x y e = grind (arith, ints)
-
 pub ends_hold : {C : Type 0} (N : ℕ) (x : Arc C) → ends_fit N x ≡ true → Ends N x
-ends_hold N x e =
-    let p = and_parts (leb 1 x.from && leb x.from N) (leb 1 x.to && leb x.to N) e in
-    let q = and_parts (leb 1 x.from) (leb x.from N) p.0 in
-    let r = and_parts (leb 1 x.to) (leb x.to N) p.1 in
-    (leb-true 1 x.from q.0, leb-true x.from N q.1, leb-true 1 x.to r.0, leb-true x.to N r.1)
+ends_hold N x e = (grind arith, grind arith, grind arith, grind arith)
 
 module _ {C : Type 0} (K : Kind C) (N : ℕ) where
   fit_one : (k : ℕ) (x : Arc C) (f : ℤ) → arc_stop K.size N k x f ≡ None → Fit K N x × (nat_abs f ≤ flow_limit)
-  fit_one k x f e =
-      let a = passed (ends_fit N x) 3 k _ e in
-      let b = passed (leb (K.size x.cost) cost_limit) 4 k _ a.1 in
-      let c = passed (bounds_fit x.lo x.hi) 7 k _ b.1 in
-      let d = passed (in_limits f) 5 k _ c.1 in
-      let s = and_parts (le_z x.lo x.hi) (in_limits x.lo && in_limits x.hi) c.0 in
-      let t = and_parts (in_limits x.lo) (in_limits x.hi) s.1 in (
-        record {
-          ends = ends_hold N x a.0;
-          order = in_order x.lo x.hi s.0;
-          low = leb-true (nat_abs x.lo) flow_limit t.0;
-          high = leb-true (nat_abs x.hi) flow_limit t.1;
-          cost = leb-true (K.size x.cost) cost_limit b.0;
-        },
-        leb-true (nat_abs f) flow_limit d.0,
-      )
+  fit_one k x f e = (record { ends = (grind arith, grind arith, grind arith, grind arith); order = grind (arith, ints); low = grind arith; high = grind arith; cost = grind arith }, grind arith)
 
   -- the arcs
   pub fitting : (k : ℕ) (arcs : List (Arc C)) (flow : List ℤ) → length flow ≡ length arcs → arcs_stop K.size N k arcs flow ≡ None → Fitting K N arcs
@@ -70,12 +46,9 @@ met : {C : Type 0} (arcs : List (Arc C)) (flow : List ℤ) (k : ℕ) (needs : Li
 met arcs flow k [] e j h = absurd (omega arith)
 met arcs flow k (d ∷ ds) e zero h =
     let p = passed (le_z (imbalance arcs flow k) d && le_z d (imbalance arcs flow k)) 6 k _ e in
-    let q = and_parts (le_z (imbalance arcs flow k) d) (le_z d (imbalance arcs flow k)) p.0 in
+    let same : imbalance arcs flow k ≡ d = grind (arith, ints) in
     let z : k + 0 ≡ k = omega arith in
-    ap (imbalance arcs flow) z ∙ same (imbalance arcs flow k) d q.0 q.1
-  where
-    same : (x y : ℤ) → le_z x y ≡ true → le_z y x ≡ true → x ≡ y
-    same x y a b = grind (arith, ints)
+    ap (imbalance arcs flow) z ∙ same
 met arcs flow k (d ∷ ds) e (suc j) h =
     let p = passed (le_z (imbalance arcs flow k) d && le_z d (imbalance arcs flow k)) 6 k _ e in
     let z : k + suc j ≡ suc k + j = omega arith in
@@ -99,21 +72,16 @@ no_stop K n flow needs prices marks e =
     let a = passed (counts_fit n.nodes (length n.arcs)) 1 0 _ e in
     let b = passed (lengths_fit n.nodes (length n.arcs) (length flow) (length needs) prices marks) 2 0 _ a.1 in
     let c = neither (arcs_stop K.size n.nodes 1 (shown n) flow) _ b.1 in
-    let p = and_parts (leb 1 n.nodes) (leb n.nodes 256 && leb (length n.arcs) 1024) a.0 in
-    let q = and_parts (leb n.nodes 256) (leb (length n.arcs) 1024) p.1 in
-    let r = and_parts (eqb (length flow) (length n.arcs)) (eqb (length needs) n.nodes && (eqb prices n.nodes && eqb marks n.nodes)) b.0 in
-    let s = and_parts (eqb (length needs) n.nodes) (eqb prices n.nodes && eqb marks n.nodes) r.1 in
-    let t = and_parts (eqb prices n.nodes) (eqb marks n.nodes) s.1 in
-    let long = eqb-true (length flow) (length n.arcs) r.0 in
+    let long : length flow ≡ length n.arcs = grind arith in
     let all : length flow ≡ length (shown n) = long ∙ sym (length_shown n) in
     record {
-      some_nodes = leb-true 1 n.nodes p.0;
-      few_nodes = leb-true n.nodes 256 q.0;
-      few_arcs = leb-true (length n.arcs) 1024 q.1;
+      some_nodes = grind arith;
+      few_nodes = grind arith;
+      few_arcs = grind arith;
       flow_long = long;
-      needs_long = eqb-true (length needs) n.nodes s.0;
-      prices_long = eqb-true prices n.nodes t.0;
-      marks_long = eqb-true marks n.nodes t.1;
+      needs_long = grind arith;
+      prices_long = grind arith;
+      marks_long = grind arith;
       fits = fitting K n.nodes 1 (shown n) flow all c.0;
       small_flow = small K n.nodes 1 (shown n) flow all c.0;
       meets = λ m l h. let z : 1 + (m - 1) ≡ m = omega arith in sym (ap (imbalance (shown n) flow) z) ∙ met (shown n) flow 1 needs c.1 (m - 1) (omega arith);

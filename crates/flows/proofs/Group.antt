@@ -1,5 +1,5 @@
 -- What the laws of a cost kind give.
-use Rattle.std.proofs.Common.{◌≡◌, ℕ, zero, suc, ◌+◌, ◌≤◌, Bool, true, false, ℤ, pos, negsuc, ◌+ℤ◌, ◌-ℤ◌, neg_ℤ, nat_abs, ◌≤ℤ◌, sym, refl, ap, ◌∙◌, subst, ap₂, subst₂, arith}
+use Rattle.std.proofs.Common.{◌≡◌, ℕ, zero, suc, ◌+◌, ◌≤◌, true, false, ℤ, pos, negsuc, ◌+ℤ◌, ◌-ℤ◌, neg_ℤ, nat_abs, ◌≤ℤ◌, sym, ap, ◌∙◌, subst, ap₂, subst₂, arith}
 use lib.IntN.{+ℤ_idl, +ℤ_invl, suc_ℤ, suc_ℤ-+ℤ}
 use borrow.Author.Differences.{ints}
 use Rattle.costs.specs.Kinds.{Kind, Laws, sums, copies, minus}
@@ -54,37 +54,21 @@ module _ {C : Type 0} (K : Kind C) (laws : Laws K) where
   cancel_le a b c h = subst₂ (λ x y. K.le x y ≡ true) (undo a c) (undo b c) (laws.mono (K.plus a c) (K.plus b c) (K.neg c) h)
 
   pub le_refl : (a : C) → K.le a a ≡ true
-  le_refl a = go (K.le a a) refl
-    where
-      go : (b : Bool) → K.le a a ≡ b → K.le a a ≡ true
-      go true e = e
-      go false e = laws.total a a e
+  le_refl a = let h = laws.total a a in grind arith
 
   pub add_le : (a b c d : C) → K.le a b ≡ true → K.le c d ≡ true → K.le (K.plus a c) (K.plus b d) ≡ true
   add_le a b c d h k = laws.trans (K.plus a c) (K.plus b c) (K.plus b d) (laws.mono a b c h) (subst₂ (λ x y. K.le x y ≡ true) (comm c b) (comm d b) (laws.mono c d b k))
 
   -- a is at most b, and b is below c: a is below c
   pub below : (a b c : C) → K.le a b ≡ true → K.le c b ≡ false → K.le c a ≡ false
-  below a b c h s = go (K.le c a) refl
-    where
-      go : (t : Bool) → K.le c a ≡ t → K.le c a ≡ false
-      go true e = off_on (sym s ∙ laws.trans c a b e h)
-      go false e = e
+  below a b c h s = let t = laws.trans c a b in grind arith
 
   -- a is at most b, and a is above c: b is above c
   pub above : (a b c : C) → K.le a b ≡ true → K.le a c ≡ false → K.le b c ≡ false
-  above a b c h s = go (K.le b c) refl
-    where
-      go : (t : Bool) → K.le b c ≡ t → K.le b c ≡ false
-      go true k = off_on (sym s ∙ laws.trans a b c h k)
-      go false k = k
+  above a b c h s = let t = laws.trans a b c in grind arith
 
   pub cancel_less : (a b c : C) → K.le (K.plus b c) (K.plus a c) ≡ false → K.le b a ≡ false
-  cancel_less a b c s = go (K.le b a) refl
-    where
-      go : (t : Bool) → K.le b a ≡ t → K.le b a ≡ false
-      go true e = off_on (sym s ∙ laws.mono b a c e)
-      go false e = e
+  cancel_less a b c s = let t = laws.mono b a c in grind arith
 
   -- multiples
   pub times_zero : (a : C) → K.times (pos 0) a ≡ K.zero

@@ -1,6 +1,6 @@
 -- Laps keep the imbalance of every node; laps one after another.
 use Rattle.std.proofs.Common.{◌≡◌, ℕ, zero, suc, ◌≤◌, Bool, true, false, cond, eqb, List, [], ◌∷◌, length, get_or, set, ℤ, pos, ◌+ℤ◌, ◌-ℤ◌, neg_ℤ, sym, refl, ap, ◌∙◌, subst, ap₂, arith, length-set}
-use lib.IntN.{+ℤ_assoc, +ℤ-neg_ℤ_cancel}
+use lib.IntN.{+ℤ-neg_ℤ_cancel}
 use borrow.Author.Differences.{ints}
 use Rattle.costs.specs.Kinds.{Kind}
 use Rattle.networks.specs.declared.network.Arc.{Arc}
@@ -8,7 +8,7 @@ use Rattle.flows.specs.declared.steps.Step.{Step}
 use Rattle.flows.specs.Flows.{sum_arcs, leaving, entering, imbalance, Meets}
 use Rattle.networks.specs.Nets.{IsAt}
 use Rattle.flows.specs.Laps.{near, far, first, Chain, moved, sent, Lap, Better, Laps, LapsKeepImbalances}
-use Rattle.flows.proofs.ArcSums.{at_one}
+use Rattle.flows.proofs.ArcSums.{at_one, integers, over_set}
 
 pick_add : (b : Bool) (x y : ℤ) → cond b (x +ℤ y) (pos 0) ≡ cond b x (pos 0) +ℤ cond b y (pos 0)
 pick_add true x y = refl
@@ -26,18 +26,15 @@ module _ {C : Type 0} (arcs : List (Arc C)) where
   -- one arc's flow changed: the flow of the arcs with that end at node n, added up
   change : (end : Arc C → ℕ) (n : ℕ) (arcs : List (Arc C)) (fs : List ℤ) (i : ℕ) (x : ℤ) (a : Arc C) → length fs ≡ length arcs → IsAt arcs i a →
       sum_arcs (λ a f. at_one (end a) f n) arcs (set fs i (get_or fs i (pos 0) +ℤ x)) ≡ sum_arcs (λ a f. at_one (end a) f n) arcs fs +ℤ at_one (end a) x n
-  change end n [] fs i x a l (h, e) = absurd (omega arith)
-  change end n (b ∷ rest) [] i x a l (h, e) = absurd (omega arith)
-  change end n (b ∷ rest) (f ∷ fs) zero x a l (h, e) =
-      ap (λ z. z +ℤ r) (pick_add (eqb (end b) n) f x) ∙ turned (at_one (end b) f n) (at_one (end b) x n) r ∙ ap (λ c. (at_one (end b) f n +ℤ r) +ℤ at_one (end c) x n) (sym e)
+  change end n arcs fs i x a l at =
+      shed (sum_arcs (λ a f. at_one (end a) f n) arcs (set fs i (f +ℤ x))) (sum_arcs (λ a f. at_one (end a) f n) arcs fs) (at_one (end a) f n) (at_one (end a) x n)
+      (over_set integers (λ a f. at_one (end a) f n) arcs fs i (f +ℤ x) a l at ∙ ap (λ z. sum_arcs (λ a f. at_one (end a) f n) arcs fs +ℤ z) (pick_add (eqb (end a) n) f x))
     where
-      r : ℤ
-      r = sum_arcs (λ a f. at_one (end a) f n) rest fs
+      f : ℤ
+      f = get_or fs i (pos 0)
 
-      turned : (u v r : ℤ) → (u +ℤ v) +ℤ r ≡ (u +ℤ r) +ℤ v
-      turned u v r = omega (arith, ints)
-  change end n (b ∷ rest) (f ∷ fs) (suc i) x a l (h, e) =
-      ap (λ z. at_one (end b) f n +ℤ z) (change end n rest fs i x a (omega arith) (omega arith, e)) ∙ sym (+ℤ_assoc (at_one (end b) f n) (sum_arcs (λ a f. at_one (end a) f n) rest fs) (at_one (end a) x n))
+      shed : (s t u v : ℤ) → s +ℤ u ≡ t +ℤ (u +ℤ v) → s ≡ t +ℤ v
+      shed s t u v e = omega (arith, ints)
 
   -- one step: x more leaves the node that it sets out from, and x more enters the one that it leads to
   step_moves : (fs : List ℤ) (along : Bool) (i : ℕ) (x : ℤ) (n : ℕ) (a : Arc C) → length fs ≡ length arcs → IsAt arcs i a →

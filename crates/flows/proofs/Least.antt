@@ -1,9 +1,8 @@
 -- A flow with no arc out of kilter is a least one.
-use Rattle.std.proofs.Common.{◌≡◌, ℕ, ◌≤◌, Bool, true, false, List, [], ◌∷◌, ℤ, ◌+ℤ◌, ◌-ℤ◌, ◌≤ℤ◌, sym, refl, ap, ◌∙◌, subst₂, arith}
+use Rattle.std.proofs.Common.{◌≡◌, ℕ, ◌≤◌, true, List, [], ◌∷◌, ℤ, ◌+ℤ◌, ◌-ℤ◌, sym, ap, ◌∙◌, subst₂, arith}
 use borrow.Author.Differences.{ints}
 use Rattle.std.specs.List.{AllByRecursion}
 use Rattle.std.proofs.ByRecursion.{All-weaker}
-use Rattle.std.proofs.lemmas.Int.{by_lt_z}
 use Rattle.costs.specs.Kinds.{Kind, Laws, sums}
 use Rattle.networks.specs.declared.network.Arc.{Arc}
 use Rattle.flows.specs.Flows.{over, sum_arcs, leaving, entering, total, EachArc, Within, Ends, SameImbalances}
@@ -19,18 +18,13 @@ module _ {C : Type 0} (K : Kind C) (laws : Laws K) where
 
   -- at one arc: a flow in kilter costs no more than one within the bounds
   arc_least : (ps : List C) (a : Arc C) (f g : ℤ) → InKilter K ps a f → Within a g → K.le (K.times f (reduced K ps a)) (K.times g (reduced K ps a)) ≡ true
-  arc_least ps a f g kilter (gl, gh) = go (K.le K.zero c) (K.le c K.zero) refl refl
-    where
-      c : C
-      c = reduced K ps a
-
-      parts : (a.lo ≤ℤ f) × (f ≤ℤ a.hi) × (K.le K.zero c ≡ false → f ≡ a.hi) × (K.le c K.zero ≡ false → f ≡ a.lo)
-      parts = kilter_parts (K.le K.zero c) (K.le c K.zero) a.lo a.hi f kilter
-
-      go : (x y : Bool) → K.le K.zero c ≡ x → K.le c K.zero ≡ y → K.le (K.times f c) (K.times g c) ≡ true
-      go true true u d = by_lt_z f g (λ l. times_up K laws f g c u (omega (arith, ints))) (λ l. times_down K laws g f c d (omega (arith, ints)))
-      go true false u d = let e : f ≡ a.lo = parts.3 d in times_up K laws f g c u (omega (arith, ints))
-      go false y u d = let e : f ≡ a.hi = parts.2 u in times_down K laws g f c (laws.total K.zero c u) (omega (arith, ints))
+  arc_least ps a f g kilter (gl, gh) =
+      let c = reduced K ps a in
+      let parts = kilter_parts (K.le K.zero c) (K.le c K.zero) a.lo a.hi f kilter in
+      let up = times_up K laws f g c in
+      let down = times_down K laws g f c in
+      let one = laws.total K.zero c in
+      grind (arith, ints)
 
   all_least : (ps : List C) (arcs : List (Arc C)) (fs gs : List ℤ) → EachArc (InKilter K ps) arcs fs → EachArc Within arcs gs →
       K.le (reduced_total ps arcs fs) (reduced_total ps arcs gs) ≡ true

@@ -1,5 +1,5 @@
 -- A rise of prices that comes before every other turns no sign; where it leads the price of a node.
-use Rattle.std.proofs.Common.{◌≡◌, ℕ, ◌≤◌, Bool, true, false, cond, ◌&&◌, ◌||◌, List, [], ◌∷◌, sym, refl, ap, ◌∙◌, subst₂, arith}
+use Rattle.std.proofs.Common.{◌≡◌, ℕ, ◌≤◌, Bool, true, false, List, [], ◌∷◌, sym, refl, ap, ◌∙◌, subst₂, arith}
 use Rattle.std.specs.List.{AllByRecursion}
 use Rattle.std.proofs.ByRecursion.{All-weaker}
 use Rattle.costs.specs.Kinds.{Kind, Laws, minus}
@@ -7,56 +7,26 @@ use Rattle.networks.specs.declared.network.Arc.{Arc}
 use Rattle.flows.specs.Flows.{Ends}
 use Rattle.flows.specs.Kilter.{reduced, largest}
 use Rattle.flows.specs.Prices.{Raised, SignKept, nearer}
-use Rattle.flows.proofs.Group.{off_on, comm, left, right, swap, back, cancel, cancel_le, le_refl, neg_down, neg_up}
+use Rattle.flows.proofs.Group.{comm, left, right, swap, back, cancel, cancel_le, le_refl, neg_down, neg_up}
 use Rattle.flows.proofs.Prices.{by_ends, sign_same}
 
 module _ {C : Type 0} (K : Kind C) (laws : Laws K) where
   -- an order in which any two compare
   pub nearer_total : (c d : C) → nearer K c d ≡ false → nearer K d c ≡ true
-  nearer_total c d = go (K.le K.zero c) (K.le K.zero d) (K.le c d) (K.le d c) (laws.total c d) (laws.total d c)
-    where
-      go : (u v x y : Bool) → (x ≡ false → y ≡ true) → (y ≡ false → x ≡ true) → cond v (u && x) (u || y) ≡ false → cond u (v && y) (v || x) ≡ true
-      go true true x y s t h = s h
-      go true false x y s t h = off_on (sym h)
-      go false true x y s t h = refl
-      go false false x y s t h = t h
+  nearer_total c d e = let h = laws.total c d in let k = laws.total d c in grind arith
 
   pub nearer_trans : (a b c : C) → nearer K a b ≡ true → nearer K b c ≡ true → nearer K a c ≡ true
-  nearer_trans a b c = go (K.le K.zero a) (K.le K.zero b) (K.le K.zero c) (K.le a b) (K.le b c) (K.le a c) (K.le b a) (K.le c b) (K.le c a) (laws.trans a b c) (λ h k. laws.trans c b a k h)
-    where
-      go : (u v w ab bc ac ba cb ca : Bool) → (ab ≡ true → bc ≡ true → ac ≡ true) → (ba ≡ true → cb ≡ true → ca ≡ true) →
-          cond v (u && ab) (u || ba) ≡ true → cond w (v && bc) (v || cb) ≡ true → cond w (u && ac) (u || ca) ≡ true
-      go true true true ab bc ac ba cb ca s t h k = s h k
-      go true false true ab bc ac ba cb ca s t h k = off_on k
-      go false true true ab bc ac ba cb ca s t h k = off_on h
-      go false false true ab bc ac ba cb ca s t h k = off_on k
-      go true v false ab bc ac ba cb ca s t h k = refl
-      go false true false ab bc ac ba cb ca s t h k = off_on h
-      go false false false ab bc ac ba cb ca s t h k = t h k
+  nearer_trans a b c h k = let x = laws.trans a b c in let y = laws.trans c b a in grind arith
 
   pub nearer_refl : (c : C) → nearer K c c ≡ true
-  nearer_refl c = go (K.le K.zero c) (K.le c c) (le_refl K laws c)
-    where
-      go : (u x : Bool) → x ≡ true → cond u (u && x) (u || x) ≡ true
-      go true x h = h
-      go false x h = h
+  nearer_refl c = let h = le_refl K laws c in grind arith
 
   -- what comes before s does not pass it, from either side of zero
   near_up : (e s : C) → nearer K e s ≡ true → K.le K.zero s ≡ true → K.le e s ≡ true
-  near_up e s = go (K.le K.zero e) (K.le K.zero s) (K.le e s) (K.le s e)
-    where
-      go : (u v x y : Bool) → cond v (u && x) (u || y) ≡ true → v ≡ true → x ≡ true
-      go true true x y h k = h
-      go false true x y h k = off_on h
-      go u false x y h k = off_on k
+  near_up e s n h = grind arith
 
   near_down : (e s : C) → nearer K e s ≡ true → K.le s K.zero ≡ true → K.le s e ≡ true
-  near_down e s n d = go (K.le K.zero e) (K.le K.zero s) (K.le e s) (K.le s e) n (λ u. laws.trans s K.zero e d u)
-    where
-      go : (u v x y : Bool) → cond v (u && x) (u || y) ≡ true → (u ≡ true → y ≡ true) → y ≡ true
-      go true v x y h k = k refl
-      go false true x y h k = off_on h
-      go false false x y h k = h
+  near_down e s n d = let h = laws.trans s K.zero e d in grind arith
 
   module _ (e : C) where
     fallen : (s r : C) → K.plus r e ≡ s → nearer K e s ≡ true → SignKept K s r

@@ -12,7 +12,7 @@ use Rattle.flows.specs.Flows.{total, outside, excess, EachArc, Limited}
 use Rattle.flows.specs.Kilter.{price, reduced, kilter_number, kilter_sum}
 use Rattle.networks.specs.Nets.{IsAt}
 use Rattle.flows.specs.Laps.{near, far, Leads, first, Chain, Apart, moved, sent, Better}
-use Rattle.flows.proofs.Group.{off_on, assoc, comm, left, left_comm, swap, cancel, cancel_le, cancel_less, le_refl, add_le, below, times_zero, times_one, times_add, times_plus, times_minus, times_cancel, times_up, times_down}
+use Rattle.flows.proofs.Group.{assoc, comm, left, left_comm, swap, cancel, cancel_le, cancel_less, le_refl, add_le, below, times_zero, times_one, times_add, times_plus, times_minus, times_cancel, times_up, times_down}
 use Rattle.flows.proofs.ArcSums.{at_place, each_getD, each_set, naturals, costs, over_set}
 use Rattle.flows.proofs.Numbers.{Eases, Mends, along_eases, against_eases, along_mends, against_mends}
 
@@ -37,16 +37,7 @@ Amiss K ps a along f = (along ≡ true → (f <ℤ a.lo) ⊎ (K.le K.zero (reduc
 
 -- a step with room stays within the limits
 pub room_limited : {C : Type 0} (K : Kind C) (ps : List C) (a : Arc C) (along : Bool) (f g : ℤ) → Room K ps a along f g → Limited a f → nat_abs g ≤ flow_limit
-room_limited K ps a true f g r (l, h, k) = go (K.le (reduced K ps a) K.zero) (r.if_along refl).1
-  where
-    go : (d : Bool) → g ≤ℤ cond d a.hi a.lo → nat_abs g ≤ flow_limit
-    go true q = let m = (r.if_along refl).0 in omega (arith, ints)
-    go false q = let m = (r.if_along refl).0 in omega (arith, ints)
-room_limited K ps a false f g r (l, h, k) = go (K.le K.zero (reduced K ps a)) (r.if_against refl).1
-  where
-    go : (u : Bool) → cond u a.lo a.hi ≤ℤ g → nat_abs g ≤ flow_limit
-    go true q = let m = (r.if_against refl).0 in omega (arith, ints)
-    go false q = let m = (r.if_against refl).0 in omega (arith, ints)
+room_limited K ps a along f g r (l, h, k) = let m = r.if_along in let n = r.if_against in grind (arith, ints)
 
 module _ {C : Type 0} (K : Kind C) (ps : List C) (arcs : List (Arc C)) where
   kept_room : (x : ℤ) (fs : List ℤ) (i : ℕ) (y : ℤ) (steps : List Step) → AllByRecursion (λ j. ¬ (i ≡ j)) (map (λ s. s.arc) steps) → AllByRecursion (HasRoom K ps arcs x fs) steps → AllByRecursion (HasRoom K ps arcs x (set fs i y)) steps
@@ -74,11 +65,9 @@ module _ {C : Type 0} (K : Kind C) (laws : Laws K) where
   lower t r m h = subst (λ z. K.le (K.plus t (K.plus r m)) (K.plus t z) ≡ true) (left K laws m) (add_le K laws t t (K.plus r m) (K.plus K.zero m) (le_refl K laws t) (laws.mono r K.zero m h))
 
   lower_less : (t r m : C) → K.le K.zero r ≡ false → K.le (K.plus t m) (K.plus t (K.plus r m)) ≡ false
-  lower_less t r m s = go (K.le (K.plus t m) (K.plus t (K.plus r m))) refl
-    where
-      go : (b : Bool) → K.le (K.plus t m) (K.plus t (K.plus r m)) ≡ b → K.le (K.plus t m) (K.plus t (K.plus r m)) ≡ false
-      go false e = e
-      go true e = off_on (sym s ∙ cancel_le K laws K.zero r (K.plus t m) (subst₂ (λ a b. K.le a b ≡ true) (sym (left K laws (K.plus t m))) (left_comm K laws t r m) e))
+  lower_less t r m s =
+      let h : K.le (K.plus t m) (K.plus t (K.plus r m)) ≡ true → K.le K.zero r ≡ true = λ e. cancel_le K laws K.zero r (K.plus t m) (subst₂ (λ a b. K.le a b ≡ true) (sym (left K laws (K.plus t m))) (left_comm K laws t r m) e) in
+      grind arith
 
   -- at a reduced cost r of an arc from price f to price t: y r + x far = y cost + x near; along y is x, against it is −x
   along_cost : (x : ℤ) (c f t : C) → K.plus (K.times x (minus K (K.plus c f) t)) (K.times x t) ≡ K.plus (K.times x c) (K.times x f)

@@ -1,19 +1,18 @@
 -- What the answers of a search come to, in words: least is least, none is none, and paused had a lap at hand.
-use Rattle.std.proofs.Common.{◌≡◌, ℕ, ◌≤◌, Bool, true, false, not, List, [], ◌∷◌, length, ℤ, ◌≤ℤ◌, sym, refl, ap, ◌∙◌, subst, inl, inr, arith}
+use Rattle.std.proofs.Common.{◌≡◌, ℕ, ◌≤◌, List, [], ◌∷◌, length, ℤ, ◌≤ℤ◌, sym, refl, ap, ◌∙◌, subst, inl, inr, arith}
 use borrow.Author.Differences.{ints}
 use Rattle.std.specs.List.{AllByRecursion}
-use Rattle.costs.specs.Kinds.{Kind, Laws, sums}
+use Rattle.costs.specs.Kinds.{Kind, Laws}
 use Rattle.networks.specs.declared.network.Arc.{Arc}
 use Rattle.networks.specs.Nets.{Net, shown}
 use Rattle.networks.proofs.Shown.{length_shown}
-use Rattle.flows.specs.Flows.{outside_of, outside, excess, total, imbalance, EachArc, Within, Ends, Meets, Least}
+use Rattle.flows.specs.Flows.{outside_of, outside, excess, imbalance, EachArc, Within, Ends, Meets, Least}
 use Rattle.flows.specs.Laps.{Lap, Better}
 use Rattle.flows.specs.Cuts.{marked}
 use Rattle.flows.specs.Kilter.{lap_limit}
 use Rattle.flows.specs.Settles.{Tables, Answered, least, paused, none, LeastLeft, NoneLeft, Answers, Settles, Says, Final, InWords}
 use Rattle.flows.proofs.ArcSums.{all_from}
 use Rattle.flows.proofs.Fitted.{Passed}
-use Rattle.flows.proofs.Group.{off_on}
 use Rattle.flows.proofs.Least.{kilter_is_least, kilter_within}
 use Rattle.flows.proofs.Cuts.{cut_shows_none}
 use Rattle.flows.proofs.Lapping.{lap_keeps, lap_long, laps_keep}
@@ -50,15 +49,11 @@ module _ {C : Type 0} (K : Kind C) where
       no_excess : excess arcs f ≡ 0
       no_excess = within_excess arcs f within
 
-      clash : (b : Bool) → b ≡ true → not b ≡ true → ⊥
-      clash true e h = off_on h
-      clash false e h = off_on e
-
       go : Better K arcs f g → ⊥
       go (inl h) = omega (arith, no_excess)
       go (inr (same, cheaper)) =
-          clash (K.le (total (sums K) arcs f) (total (sums K) arcs g))
-          (smallest g (excess_within arcs g (lap_long arcs f g lap ∙ l) (same ∙ no_excess)) (λ n _ _. sym (lap_keeps arcs f g l lap n))) cheaper
+          let least = smallest g (excess_within arcs g (lap_long arcs f g lap ∙ l) (same ∙ no_excess)) (λ n _ _. sym (lap_keeps arcs f g l lap n)) in
+          grind arith
 
   -- answered least: within the bounds, and least
   pub left_is_least : Laws K → (N : ℕ) (arcs : List (Arc C)) (budget : ℕ) (found : Tables C) (cost : C) (laps : ℕ) (left : Tables C) → AllByRecursion (Ends N) arcs → LeastLeft K arcs budget found cost laps left →

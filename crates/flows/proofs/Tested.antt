@@ -1,18 +1,21 @@
 -- A worked figure that passes a test, which computes, is right.
-use Rattle.std.proofs.Common.{◌≡◌, ℕ, zero, suc, ◌+◌, ◌-◌, ◌<◌, ◌≤◌, Bool, true, false, not, ◌&&◌, leb, List, [], ◌∷◌, length, get_or, ℤ, pos, ◌-ℤ◌, ◌<ℤ◌, sym, refl, ap, ◌∙◌, subst, ⊎_elim, arith}
+use Rattle.std.proofs.Common.{◌≡◌, ℕ, zero, suc, ◌+◌, ◌<◌, ◌≤◌, Bool, true, false, not, ◌&&◌, leb, List, [], ◌∷◌, ℤ, ◌-ℤ◌, ◌<ℤ◌, sym, subst, ⊎_elim, arith}
 use lib.Signed.{le_z, lt_z}
 use borrow.Author.Differences.{ints}
 use Rattle.std.specs.List.{AllByRecursion}
-use Rattle.std.proofs.lemmas.Bool.{and_parts, not-true, leb-true, cases_eq}
+use Rattle.std.proofs.lemmas.Bool.{leb-true, cases_eq}
 use Rattle.costs.specs.Kinds.{Kind, Laws, sums}
 use Rattle.networks.specs.declared.network.Arc.{Arc}
-use Rattle.flows.specs.Flows.{imbalance, imbalances_from, total, EachArc, Ends, SameImbalances, Meets}
+use Rattle.flows.specs.Flows.{imbalance, imbalances_from, total, EachArc, Ends}
 use Rattle.flows.specs.Kilter.{reduced, out_of_kilter, InKilter}
 use Rattle.flows.specs.Cuts.{can_leave, must_enter, needed_from, marked}
 use Rattle.flows.specs.declared.figures.Figure.{Figure}
 use Rattle.flows.specs.declared.figures.Verdict.{Verdict}
 use Rattle.flows.specs.declared.figures.Verdict.TheVariants.{LeastFlow, NoFlow}
 use Rattle.flows.specs.Figures.{RightFlow, RightCut, RightVerdict, Right, AllRight}
+use Rattle.flows.specs.Stops.{ends_fit}
+use Rattle.flows.proofs.Fitted.{ends_hold}
+use Rattle.flows.proofs.Needing.{imbalances_long, imbalances_meet}
 use Rattle.flows.proofs.Group.{off_on}
 use Rattle.flows.proofs.Least.{kilter_is_least, kilter_within}
 use Rattle.flows.proofs.Cuts.{cut_shows_none}
@@ -24,7 +27,7 @@ all t (x ∷ xs) = t x && all t xs
 
 all_pass : {X : Type 0} (t : X → Bool) (P : X → Type 0) → ((x : X) → t x ≡ true → P x) → (xs : List X) → all t xs ≡ true → AllByRecursion P xs
 all_pass t P h [] e = tt
-all_pass t P h (x ∷ xs) e = let p = and_parts (t x) (all t xs) e in (h x p.0, all_pass t P h xs p.1)
+all_pass t P h (x ∷ xs) e = (h x (grind arith), all_pass t P h xs (grind arith))
 
 -- the same numbers
 abbrev alike : List ℤ → List ℤ → Bool
@@ -33,69 +36,25 @@ alike [] (y ∷ ys) = false
 alike (x ∷ xs) [] = false
 alike (x ∷ xs) (y ∷ ys) = (le_z x y && le_z y x) && alike xs ys
 
-one_number : (x y : ℤ) → (le_z x y && le_z y x) ≡ true → x ≡ y
-one_number x y e = let p = and_parts (le_z x y) (le_z y x) e in let l = p.0 in let r = p.1 in omega (arith, ints)
-
 module _ {C : Type 0} where
-  abbrev ends_fit : ℕ → Arc C → Bool
-  ends_fit N a = (leb 1 a.from && leb a.from N) && (leb 1 a.to && leb a.to N)
-
-  ends_pass : (N : ℕ) (a : Arc C) → ends_fit N a ≡ true → Ends N a
-  ends_pass N a e =
-      let p = and_parts (leb 1 a.from && leb a.from N) (leb 1 a.to && leb a.to N) e in
-      let q = and_parts (leb 1 a.from) (leb a.from N) p.0 in
-      let r = and_parts (leb 1 a.to) (leb a.to N) p.1 in
-      (leb-true 1 a.from q.0, leb-true a.from N q.1, leb-true 1 a.to r.0, leb-true a.to N r.1)
-
   alike_pass : (arcs : List (Arc C)) (f g : List ℤ) (k n : ℕ) → alike (imbalances_from k n arcs f) (imbalances_from k n arcs g) ≡ true → (m : ℕ) → k ≤ m → m < k + n → imbalance arcs f m ≡ imbalance arcs g m
   alike_pass arcs f g k zero e m l h = absurd (omega arith)
   alike_pass arcs f g k (suc n) e m l h =
-      let p = and_parts (le_z (imbalance arcs f k) (imbalance arcs g k) && le_z (imbalance arcs g k) (imbalance arcs f k)) (alike (imbalances_from (suc k) n arcs f) (imbalances_from (suc k) n arcs g)) e in
-      ⊎_elim (λ (q : m ≡ k). subst (λ j. imbalance arcs f j ≡ imbalance arcs g j) (sym q) (one_number (imbalance arcs f k) (imbalance arcs g k) p.0))
-      (λ (q : m ≡ k → ⊥). alike_pass arcs f g (suc k) n p.1 m (omega arith) (omega arith)) (cases_eq m k)
-
-  -- the imbalances as needs
-  pub imbalances_long : (arcs : List (Arc C)) (f : List ℤ) (k n : ℕ) → length (imbalances_from k n arcs f) ≡ n
-  imbalances_long arcs f k zero = refl
-  imbalances_long arcs f k (suc n) = ap suc (imbalances_long arcs f (suc k) n)
-
-  pub imbalances_at : (arcs : List (Arc C)) (f : List ℤ) (k n m : ℕ) → k ≤ m → m < k + n → imbalance arcs f m ≡ get_or (imbalances_from k n arcs f) (m - k) (pos 0)
-  imbalances_at arcs f k zero m l h = absurd (omega arith)
-  imbalances_at arcs f k (suc n) m l h = ⊎_elim
-      (λ (q : m ≡ k). let z : m - k ≡ 0 = omega arith in ap (imbalance arcs f) q ∙ sym (ap (λ i. get_or (imbalances_from k (suc n) arcs f) i (pos 0)) z))
-      (λ (q : m ≡ k → ⊥). let z : m - k ≡ suc (m - suc k) = omega arith in imbalances_at arcs f (suc k) n m (omega arith) (omega arith) ∙ sym (ap (λ i. get_or (imbalances_from k (suc n) arcs f) i (pos 0)) z)) (cases_eq m k)
-
-  pub imbalances_meet : (N : ℕ) (arcs : List (Arc C)) (f g : List ℤ) → SameImbalances N arcs f g → Meets arcs (imbalances_from 1 N arcs f) g
-  imbalances_meet N arcs f g same n l h =
-      let m : n ≤ N = subst (λ z. n ≤ z) (imbalances_long arcs f 1 N) h in
-      sym (same n l m) ∙ imbalances_at arcs f 1 N n l (omega arith)
+      ⊎_elim (λ (q : m ≡ k). subst (λ j. imbalance arcs f j ≡ imbalance arcs g j) (sym q) (grind (arith, ints)))
+      (λ (q : m ≡ k → ⊥). alike_pass arcs f g (suc k) n (grind arith) m (omega arith) (omega arith)) (cases_eq m k)
 
   abbrev cut_passes : ℕ → List (Arc C) → List ℤ → List ℕ → Bool
   cut_passes N arcs opened marks = all (ends_fit N) arcs && (all (λ m. leb m 1) marks && lt_z (can_leave (marked marks) arcs -ℤ must_enter (marked marks) arcs) (needed_from 1 (marked marks) (imbalances_from 1 N arcs opened)))
 
   cut_is_right : (N : ℕ) (arcs : List (Arc C)) (opened : List ℤ) (marks : List ℕ) → cut_passes N arcs opened marks ≡ true → RightCut N arcs opened marks
-  cut_is_right N arcs opened marks e = record {
-    cut = record { bits = all_pass (λ m. leb m 1) (λ m. m ≤ 1) (λ m h. leb-true m 1 h) marks q.0; cut = less };
-    is_none = λ flow within same. cut_shows_none C arcs needs (marked marks) (subst (λ n. AllByRecursion (Ends n) arcs) (sym (imbalances_long arcs opened 1 N)) (all_pass (ends_fit N) (Ends N) (ends_pass N) arcs p.0)) less flow within (imbalances_meet N arcs opened flow same);
-  }
-    where
-      needs : List ℤ
-      needs = imbalances_from 1 N arcs opened
-
-      out : ℤ
-      out = can_leave (marked marks) arcs -ℤ must_enter (marked marks) arcs
-
-      p : (all (ends_fit N) arcs ≡ true) × ((all (λ m. leb m 1) marks && lt_z (can_leave (marked marks) arcs -ℤ must_enter (marked marks) arcs) (needed_from 1 (marked marks) (imbalances_from 1 N arcs opened))) ≡ true)
-      p = and_parts (all (ends_fit N) arcs) _ e
-
-      q : (all (λ m. leb m 1) marks ≡ true) × (lt_z (can_leave (marked marks) arcs -ℤ must_enter (marked marks) arcs) (needed_from 1 (marked marks) (imbalances_from 1 N arcs opened)) ≡ true)
-      q = and_parts (all (λ m. leb m 1) marks) _ p.1
-
-      is_below : (x y : ℤ) → lt_z x y ≡ true → x <ℤ y
-      is_below x y h = grind (arith, ints)
-
-      less : (can_leave (marked marks) arcs -ℤ must_enter (marked marks) arcs) <ℤ needed_from 1 (marked marks) (imbalances_from 1 N arcs opened)
-      less = is_below _ _ q.1
+  cut_is_right N arcs opened marks e =
+      let needs : List ℤ = imbalances_from 1 N arcs opened in
+      let sound : all (ends_fit N) arcs ≡ true = grind arith in
+      let less : (can_leave (marked marks) arcs -ℤ must_enter (marked marks) arcs) <ℤ needed_from 1 (marked marks) (imbalances_from 1 N arcs opened) = grind (arith, ints) in
+      record {
+        cut = record { bits = all_pass (λ m. leb m 1) (λ m. m ≤ 1) (λ m h. leb-true m 1 h) marks (grind arith); cut = less };
+        is_none = λ flow within same. cut_shows_none C arcs needs (marked marks) (subst (λ n. AllByRecursion (Ends n) arcs) (sym (imbalances_long arcs opened 1 N)) (all_pass (ends_fit N) (Ends N) (ends_hold N) arcs sound)) less flow within (imbalances_meet N arcs opened flow same);
+      }
 
   module _ (K : Kind C) where
     -- no arc is out of kilter
@@ -109,26 +68,19 @@ module _ {C : Type 0} where
     calm_pass ps [] [] e = tt
     calm_pass ps [] (f ∷ fs) e = off_on e
     calm_pass ps (a ∷ rest) [] e = off_on e
-    calm_pass ps (a ∷ rest) (f ∷ fs) e =
-        let p = and_parts (not (out_of_kilter K (reduced K ps a) a f)) (calm ps rest fs) e in
-        (not-true (out_of_kilter K (reduced K ps a) a f) p.0, calm_pass ps rest fs p.1)
+    calm_pass ps (a ∷ rest) (f ∷ fs) e = (grind arith, calm_pass ps rest fs (grind arith))
 
     abbrev flow_passes : ℕ → List (Arc C) → List ℤ → List ℤ → C → List C → Bool
     flow_passes N arcs opened flow cost prices = all (ends_fit N) arcs && (calm prices arcs flow && (alike (imbalances_from 1 N arcs opened) (imbalances_from 1 N arcs flow) && (K.le (total (sums K) arcs flow) cost && K.le cost (total (sums K) arcs flow))))
 
     flow_is_right : Laws K → (N : ℕ) (arcs : List (Arc C)) (opened flow : List ℤ) (cost : C) (prices : List C) → flow_passes N arcs opened flow cost prices ≡ true → RightFlow K N arcs opened flow cost prices
     flow_is_right laws N arcs opened flow cost prices e =
-        let t : C = total (sums K) arcs flow in
-        let p = and_parts (all (ends_fit N) arcs) (calm prices arcs flow && (alike (imbalances_from 1 N arcs opened) (imbalances_from 1 N arcs flow) && (K.le t cost && K.le cost t))) e in
-        let q = and_parts (calm prices arcs flow) (alike (imbalances_from 1 N arcs opened) (imbalances_from 1 N arcs flow) && (K.le t cost && K.le cost t)) p.1 in
-        let r = and_parts (alike (imbalances_from 1 N arcs opened) (imbalances_from 1 N arcs flow)) (K.le t cost && K.le cost t) q.1 in
-        let s = and_parts (K.le t cost) (K.le cost t) r.1 in
-        let kilter : EachArc (InKilter K prices) arcs flow = calm_pass prices arcs flow q.0 in
+        let kilter : EachArc (InKilter K prices) arcs flow = calm_pass prices arcs flow (grind arith) in
         record {
           within = kilter_within K laws prices arcs flow kilter;
-          same = λ n l h. alike_pass arcs opened flow 1 N r.0 n l (omega arith);
-          is_least = kilter_is_least K laws N arcs flow prices (all_pass (ends_fit N) (Ends N) (ends_pass N) arcs p.0) kilter;
-          total_is = laws.antisym t cost s.0 s.1;
+          same = λ n l h. alike_pass arcs opened flow 1 N (grind arith) n l (omega arith);
+          is_least = kilter_is_least K laws N arcs flow prices (all_pass (ends_fit N) (Ends N) (ends_hold N) arcs (grind arith)) kilter;
+          total_is = laws.antisym (total (sums K) arcs flow) cost (grind arith) (grind arith);
           kilter = kilter;
         }
 

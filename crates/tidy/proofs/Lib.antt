@@ -1,9 +1,5 @@
 pub mod Sounds
 pub mod Marks
 pub mod Order
-pub mod Shifts
-pub mod Folds
-pub mod Raising
-pub mod Shifted
 pub mod Picking
 pub mod Turns

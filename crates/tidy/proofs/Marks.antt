@@ -1,15 +1,11 @@
 -- Nodes that are not labelled.
-use Rattle.std.proofs.Common.{◌≡◌, ℕ, zero, suc, ◌+◌, ◌<◌, ◌≤◌, Bool, true, false, cond, List, [], ◌∷◌, length, get_or, take, drop, set, replicate, sym, refl, ap, ◌∙◌, arith}
+use Rattle.std.proofs.Common.{◌≡◌, ℕ, zero, suc, ◌<◌, ◌≤◌, Bool, true, false, cond, not, List, [], ◌∷◌, length, get_or, take, set, replicate, sym, refl, ap, subst, arith}
+use Rattle.std.specs.List.{position, position_or_len}
+use Rattle.std.specs.Option.{unwrap_or}
+use Rattle.std.proofs.lemmas.List.Sums.{passes_at_first}
+use Rattle.std.proofs.lemmas.Bool.{cond-true, lt-ltb, not-true}
 use Rattle.tidy.specs.Picks.{unmarked}
 use Rattle.flows.proofs.Group.{off_on}
-
-step' : (ms : List Bool) (i : ℕ) → get_or ms i false ≡ true → unmarked (drop (suc i) ms) ≡ unmarked (drop i ms)
-step' [] i e = off_on e
-step' (m ∷ ms) zero e = ap (λ b. cond b (unmarked ms) (suc (unmarked ms))) (sym e)
-step' (m ∷ ms) (suc i) e = step' ms i e
-
-pub pass_labelled_at : (ms : List Bool) (i : ℕ) → get_or ms i false ≡ true → unmarked (drop (i + 1) ms) ≡ unmarked (drop i ms)
-pass_labelled_at ms i e = let next : i + 1 ≡ suc i = omega arith in ap (λ j. unmarked (drop j ms)) next ∙ step' ms i e
 
 -- one mark more
 pub one_less : (ms : List Bool) (i : ℕ) → i < length ms → get_or ms i false ≡ false → suc (unmarked (set ms i true)) ≡ unmarked ms
@@ -48,3 +44,15 @@ front_long zero zero h = refl
 front_long zero (suc m) h = refl
 front_long (suc n) zero h = absurd (omega arith)
 front_long (suc n) (suc m) h = ap suc (front_long n m (omega arith))
+
+-- the first mark that is not set
+pub first_free : (ms : List Bool) → 1 ≤ unmarked ms → (unwrap_or (position not ms) 0 < length ms) × (get_or ms (unwrap_or (position not ms) 0) false ≡ false)
+first_free ms some =
+    let l = inside ms some in
+    let e : position_or_len not ms ≡ unwrap_or (position not ms) 0 = ap (λ o. unwrap_or o 0) (sym (cond-true _ _ _ (lt-ltb (position_or_len not ms) (length ms) l))) in
+    subst (λ i. (i < length ms) × (get_or ms i false ≡ false)) e (l, not-true _ (passes_at_first not ms false l))
+  where
+    inside : (ms : List Bool) → 1 ≤ unmarked ms → position_or_len not ms < length ms
+    inside [] h = absurd (omega arith)
+    inside (true ∷ ms) h = omega (arith, inside ms h)
+    inside (false ∷ ms) h = omega arith

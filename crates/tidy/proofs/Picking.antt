@@ -1,18 +1,18 @@
 -- The nearest slack, or where there is none any node that is not labelled, is a good pick.
-use Rattle.std.proofs.Common.{◌≡◌, ℕ, ◌+◌, ◌-◌, ◌<◌, ◌≤◌, Bool, true, false, cond, List, [], ◌∷◌, length, get_or, Some, None, sym, refl, ap, ◌∙◌, subst, arith}
+use Rattle.std.proofs.Common.{◌≡◌, ℕ, ◌+◌, ◌-◌, ◌<◌, ◌≤◌, Bool, true, false, cond, List, [], ◌∷◌, length, get_or, Some, None, Option, sym, refl, ap, ◌∙◌, subst, ap₂, arith}
 use Rattle.std.specs.List.{AllByRecursion}
 use Rattle.networks.specs.declared.network.Arc.{Arc}
-use Rattle.costs.specs.Kinds.{Kind, Laws, minus}
-use Rattle.flows.proofs.Group.{right, swap, cancel, size_zero, size_reduced, size_neg, size_minus}
+use Rattle.costs.specs.Kinds.{Kind, Laws}
+use Rattle.flows.proofs.Group.{size_zero, size_reduced, size_neg, size_minus}
 use Rattle.tidy.specs.declared.picks.Pick.{Pick}
-use Rattle.tidy.specs.Picks.{slack_of, nearer, nearest_of, picked, unmarked, Raised, MarkedBounded, GoodPick, labelled_at, Sound}
+use Rattle.tidy.specs.Picks.{slack_of, nearest_of, picked, unmarked, GoodPick, labelled_at, Sound}
 use Rattle.tidy.proofs.Order.{some_none, nearest_allows, nearest_is, nearest_none}
-use Rattle.tidy.proofs.Shifts.{arc_kept, back}
 use Rattle.tidy.proofs.Marks.{some_labelled_at}
-use Rattle.tidy.proofs.Sounds.{none_larger}
+use Rattle.flows.proofs.Nearer.{sign_raised, to_lands, from_lands, none_larger}
+use Rattle.flows.proofs.Shifts.{SmallInside}
 use Rattle.flows.specs.Kilter.{reduced, price, largest}
 use Rattle.flows.specs.Flows.{Ends}
-use Rattle.flows.specs.Prices.{SignKept, SignsKept}
+use Rattle.flows.specs.Prices.{SignKept, SignsKept, Raised, nearer}
 use Rattle.flows.specs.Fits.{Bounded, price_limit, change_limit}
 
 pub all_both : {X : Type 0} (P Q R : X → Type 0) → ((x : X) → P x → Q x → R x) → (xs : List X) → AllByRecursion P xs → AllByRecursion Q xs → AllByRecursion R xs
@@ -25,23 +25,8 @@ module _ {C : Type 0} (K : Kind C) (laws : Laws K) (ms : List Bool) (ps : List C
     inside : p.place < length ps
     free : get_or ms p.place false ≡ false
     moderate : K.size p.far ≤ change_limit
-    lands : (b : ℕ) → MarkedBounded K b ms ps → K.size (K.plus (get_or ps p.place K.zero) p.far) ≤ b + m
+    lands : (b : ℕ) → SmallInside K (length ps) (labelled_at ms) ps b → K.size (K.plus (get_or ps p.place K.zero) p.far) ≤ b + m
     some : unmarked ms < length ms
-
-  -- the price at the far end then
-  to_lands : (c f t : C) → K.plus t (minus K (K.plus c f) t) ≡ K.plus c f
-  to_lands c f t = laws.adds.comm t (minus K (K.plus c f) t) ∙ back K laws (K.plus c f) t
-
-  gone : (x y : C) → K.plus x (K.plus (K.neg y) y) ≡ x
-  gone x y = ap (K.plus x) (laws.adds.comm (K.neg y) y ∙ laws.cancels y) ∙ right K laws x
-
-  across : (f r t c : C) → K.plus r t ≡ K.plus c f → K.plus f (K.neg r) ≡ minus K t c
-  across f r t c h = cancel K laws (K.plus f (K.neg r)) (minus K t c) (K.plus c r)
-      (swap K laws f (K.neg r) c r ∙ gone (K.plus f c) r ∙ laws.adds.comm f c ∙ sym h ∙ laws.adds.comm r t
-      ∙ sym (gone (K.plus t r) c) ∙ sym (swap K laws t (K.neg c) r c) ∙ ap (K.plus (minus K t c)) (laws.adds.comm r c))
-
-  from_lands : (c f t : C) → K.plus f (K.neg (minus K (K.plus c f) t)) ≡ minus K t c
-  from_lands c f t = across f (minus K (K.plus c f) t) t c (back K laws (K.plus c f) t)
 
   fair : (m : ℕ) → m ≤ 1000000 → Bounded K price_limit ps → (a : Arc C) → Ends (length ps) a → K.size a.cost ≤ m → (q : Pick C) → slack_of K ps ms a ≡ Some q → Fair m q
   fair m small moderate a ends cost q = go (labelled_at ms a.from) (labelled_at ms a.to) refl refl
@@ -64,22 +49,35 @@ module _ {C : Type 0} (K : Kind C) (laws : Laws K) (ms : List Bool) (ps : List C
         inside = omega arith;
         free = v;
         moderate = moderate_r;
-        lands = λ b h. subst (λ z. K.size z ≤ b + m) (sym (to_lands a.cost pf pt)) (omega (arith, laws.adds.size_plus a.cost pf, h (a.from - 1) (omega arith) u));
+        lands = λ b h. subst (λ z. K.size z ≤ b + m) (sym (to_lands K laws a.cost pf pt)) (omega (arith, laws.adds.size_plus a.cost pf, h a.from ends.0 ends.1 u));
         some = some_labelled_at ms (a.from - 1) u;
       })
       go false true u v e = let s : picked (a.from - 1) (K.neg r) ≡ q = cc in subst (Fair m) s (record {
         inside = omega arith;
         free = u;
         moderate = omega (arith, size_neg K laws r, moderate_r);
-        lands = λ b h. subst (λ z. K.size z ≤ b + m) (sym (from_lands a.cost pf pt)) (omega (arith, size_minus K laws pt a.cost, h (a.to - 1) (omega arith) v));
+        lands = λ b h. subst (λ z. K.size z ≤ b + m) (sym (from_lands K laws a.cost pf pt)) (omega (arith, size_minus K laws pt a.cost, h a.to ends.2 ends.3 v));
         some = some_labelled_at ms (a.to - 1) v;
       })
       go false false u v e = some_none e
 
+  -- no sign turns where the change is as near as the arc's slack
+  arc_kept : (e : C) (qs : List C) (a : Arc C) → Ends (length ps) a → Raised K (length ps) e (labelled_at ms) ps qs → ((q : Pick C) → slack_of K ps ms a ≡ Some q → nearer K e q.far ≡ true) → SignKept K (reduced K ps a) (reduced K qs a)
+  arc_kept e qs a ends raised allows =
+      sign_raised K laws e (length ps) (labelled_at ms) ps qs raised a ends
+      (λ p q. allows (picked (a.to - 1) r) (ap₂ slack p q))
+      (λ p q. allows (picked (a.from - 1) (K.neg r)) (ap₂ slack p q))
+    where
+      r : C
+      r = reduced K ps a
+
+      slack : Bool → Bool → Option (Pick C)
+      slack x y = cond x (cond y None (Some (picked (a.to - 1) r))) (cond y (Some (picked (a.from - 1) (K.neg r))) None)
+
   module _ (arcs : List (Arc C)) (sound : Sound K arcs (length ps)) where
-    kept_all : (e : C) → AllByRecursion (λ a. (q : Pick C) → slack_of K ps ms a ≡ Some q → nearer K e q.far ≡ true) arcs → (qs : List C) → Raised K e ms ps qs → SignsKept K arcs ps qs
+    kept_all : (e : C) → AllByRecursion (λ a. (q : Pick C) → slack_of K ps ms a ≡ Some q → nearer K e q.far ≡ true) arcs → (qs : List C) → Raised K (length ps) e (labelled_at ms) ps qs → SignsKept K arcs ps qs
     kept_all e h qs r = all_both (Ends (length ps)) (λ a. (q : Pick C) → slack_of K ps ms a ≡ Some q → nearer K e q.far ≡ true) (λ a. SignKept K (reduced K ps a) (reduced K qs a))
-        (λ a ends allows. arc_kept K laws e ms ps qs a ends r allows) arcs sound.ends h
+        (λ a ends allows. arc_kept e qs a ends r allows) arcs sound.ends h
 
     pub nearest_good : Bounded K price_limit ps → (p : Pick C) → Some p ≡ nearest_of K ps ms None arcs → GoodPick K arcs ms ps p
     nearest_good moderate p h =

@@ -1,12 +1,13 @@
 -- The node that is labelled next, and by how much the prices of the nodes that are not yet labelled change.
-use Rattle.std.specs.Prelude.{◌≡◌, ℕ, suc, ◌+◌, ◌-◌, ◌*◌, ◌<◌, ◌≤◌, Bool, true, false, cond, ◌&&◌, ◌||◌, List, [], ◌∷◌, length, get_or, Some, None, Option, slice_index_or}
+use Rattle.std.specs.Prelude.{◌≡◌, ℕ, suc, ◌+◌, ◌-◌, ◌*◌, ◌<◌, ◌≤◌, Bool, false, cond, List, [], ◌∷◌, length, get_or, Some, None, Option, slice_index_or}
 use Rattle.std.specs.List.{AllByRecursion}
 use Rattle.networks.specs.declared.network.Arc.{Arc}
 use Rattle.costs.specs.Kinds.{Kind}
 use Rattle.tidy.specs.declared.picks.Pick.{Pick}
 use Rattle.flows.specs.Kilter.{reduced, largest}
 use Rattle.flows.specs.Flows.{Ends}
-use Rattle.flows.specs.Prices.{SignsKept}
+use Rattle.flows.specs.Prices.{SignsKept, Raised, nearer}
+use Rattle.flows.proofs.Shifts.{SmallInside}
 use Rattle.flows.specs.Fits.{Bounded, change_limit}
 
 -- the node is labelled: of marks with node 1's first
@@ -31,10 +32,6 @@ picked place far = record { place = place; far = far }
 abbrev pub slack_of : {C : Type 0} → Kind C → List C → List Bool → Arc C → Option (Pick C)
 slack_of K ps ms a = cond (labelled_at ms a.from) (cond (labelled_at ms a.to) None (Some (picked (a.to - 1) (reduced K ps a)))) (cond (labelled_at ms a.to) (Some (picked (a.from - 1) (K.neg (reduced K ps a)))) None)
 
--- whether c is as near as d: what is not below none before what is below, then by how far from none
-abbrev pub nearer : {C : Type 0} → Kind C → C → C → Bool
-nearer K c d = cond (K.le K.zero d) (K.le K.zero c && K.le c d) (K.le K.zero c || K.le d c)
-
 -- the nearer of the best so far and one more
 abbrev pub chosen : {C : Type 0} → Kind C → Option (Pick C) → Option (Pick C) → Option (Pick C)
 chosen K best None = best
@@ -50,24 +47,11 @@ abbrev pub unmarked : List Bool → ℕ
 unmarked [] = 0
 unmarked (m ∷ ms) = cond m (unmarked ms) (suc (unmarked ms))
 
--- no labelled price has a size above b
-abbrev pub MarkedBounded : {C : Type 0} → Kind C → ℕ → List Bool → List C → Type 0
-MarkedBounded K b ms ps = (k : ℕ) → k < length ps → slice_index_or ms k false ≡ true → K.size (slice_index_or ps k K.zero) ≤ b
-
--- qs is ps with e more wherever there is no mark
-pub record Raised {C : Type 0} (K : Kind C) (e : C) (ms : List Bool) (ps qs : List C) : Type 0 where
-  pub sized : length qs ≡ length ps
-  pub at : (k : ℕ) → k < length ps → slice_index_or qs k K.zero ≡ cond (slice_index_or ms k false) (slice_index_or ps k K.zero) (K.plus (slice_index_or ps k K.zero) e)
-
--- the prices that are not labelled are the old ones with d added
-abbrev pub Shifted : {C : Type 0} → Kind C → List C → List Bool → List C → C → Type 0
-Shifted K old ms ps d = (u : ℕ) → u < length old → slice_index_or ms u false ≡ false → slice_index_or ps u K.zero ≡ K.plus (slice_index_or old u K.zero) d
-
 -- a node that is not labelled, and the change that keeps the signs and gives that node a price which is small where the labelled ones are
 pub record GoodPick {C : Type 0} (K : Kind C) (arcs : List (Arc C)) (ms : List Bool) (ps : List C) (p : Pick C) : Type 0 where
   pub inside : p.place < length ps
   pub free : get_or ms p.place false ≡ false
   pub moderate : K.size p.far ≤ change_limit
-  pub keeps : (qs : List C) → Raised K p.far ms ps qs → SignsKept K arcs ps qs
-  pub lands : (b : ℕ) → MarkedBounded K b ms ps → K.size (K.plus (slice_index_or ps p.place K.zero) p.far) ≤ b + largest K arcs
+  pub keeps : (qs : List C) → Raised K (length ps) p.far (labelled_at ms) ps qs → SignsKept K arcs ps qs
+  pub lands : (b : ℕ) → SmallInside K (length ps) (labelled_at ms) ps b → K.size (K.plus (slice_index_or ps p.place K.zero) p.far) ≤ b + largest K arcs
   pub lands_first : unmarked ms ≡ length ms → K.size (K.plus (slice_index_or ps p.place K.zero) p.far) ≡ 0

@@ -1,13 +1,14 @@
 // The node that is labelled next while prices are tidied.
 
-ghost use Rattle.std.specs.Prelude.{◌≡◌, ℕ, ◌+◌, ◌-◌, ◌*◌, ◌<◌, ◌≤◌, true, false, cond, List, length, None, slice_index_or};
+ghost use Rattle.std.specs.Prelude.{◌≡◌, ℕ, ◌≤◌, length, not, None};
+ghost use Rattle.std.specs.List.{position};
 ghost use Rattle.networks.specs.Nets.{shown};
-ghost use Rattle.flows.specs.Fits.{Fit, Fitting, Bounded, price_limit, change_limit, found_limit};
+ghost use Rattle.flows.specs.Fits.{Fit, Fitting, Bounded, price_limit};
+ghost use Rattle.flows.specs.Prices.{nearer as is_nearer};
 ghost use Rattle.tidy.specs.Picks.{slack_of, chosen, nearest_of, unmarked, GoodPick};
-ghost use Rattle.tidy.specs.Picks.{nearer as is_nearer};
 
 use costs::CostKind;
-use flows::{opposite, price_at, reduced};
+use flows::{arcs_of, opposite, price_at, reduced};
 use networks::{Arc, Network};
 
 // A node that can be labelled next, by its place, and how far the unlabelled prices have to rise for that.
@@ -17,30 +18,15 @@ pub struct Pick<C> {
     pub far: C,
 }
 
-fn slack<C: CostKind>(arc: Arc<C>, prices: &[C], marks: &[bool]) -> Option<Pick<C>>
-    requires fits { Fit C.CostKind.kind (length prices.now) arc }
-    requires moderate { Bounded C.CostKind.kind price_limit prices.now }
-    requires alike { length marks.now ≡ length prices.now }
-    ensures { result ≡ slack_of C.CostKind.kind prices.now marks.now arc }
-{
-    let from = arc.from - 1;
-    let to = arc.to - 1;
-    if marks[from] {
-        if marks[to] {
-            return None;
-        }
-        return Some(Pick {
-            place: to,
-            far: reduced(arc, prices),
-        });
-    }
-    if marks[to] {
-        return Some(Pick {
-            place: from,
-            far: opposite(reduced(arc, prices)),
-        });
-    }
-    None
+// A network that fits, with a moderate price for each of its nodes and a mark where the node is labelled.
+#[derive(Drop)]
+pub struct Marked<'a, N: Network> {
+    pub net: &'a N,
+    pub prices: &'a [N::Cost],
+    pub marks: &'a [bool],
+    ghost fitting: { Fitting N.Cost.CostKind.kind (length prices.now) (shown (N.meaning net.now)) },
+    ghost moderate: { Bounded N.Cost.CostKind.kind price_limit prices.now },
+    ghost alike: { length marks.now ≡ length prices.now },
 }
 
 fn nearer<C: CostKind>(a: C, b: C) -> bool
@@ -57,65 +43,62 @@ fn nearer<C: CostKind>(a: C, b: C) -> bool
 fn choose<C: CostKind>(best: Option<Pick<C>>, more: Option<Pick<C>>) -> Option<Pick<C>>
     ensures { result ≡ chosen C.CostKind.kind best more }
 {
-    let Some(p) = more else {
-        return best;
+    let (Some(b), Some(p)) = (best, more) else {
+        return best.or(more);
     };
-    let Some(b) = best else {
-        return Some(p);
-    };
-    if nearer(b.far, p.far) {
-        Some(b)
-    } else {
-        Some(p)
-    }
+    Some(if nearer(b.far, p.far) { b } else { p })
 }
 
-// The nearest node over all arcs between labelled and unlabelled nodes.
-fn nearest<N: Network>(net: &N, prices: &[N::Cost], marks: &[bool]) -> Option<Pick<N::Cost>>
-    requires fitting { Fitting N.Cost.CostKind.kind (length prices.now) (shown (N.meaning net.now)) }
-    requires moderate { Bounded N.Cost.CostKind.kind price_limit prices.now }
-    requires alike { length marks.now ≡ length prices.now }
-    ensures { result ≡ nearest_of N.Cost.CostKind.kind prices.now marks.now None (shown (N.meaning net.now)) }
-{
-    let mut best = None;
-    let count = net.arcs();
-    for i in 0..count {
-        let Some(x) = net.arc(i + 1) else {
-            return None;
-        };
-        best = choose(best, slack(x, prices, marks));
+impl<N: Network> Marked<'_, N> {
+    // How far the unlabelled prices have to rise for an arc between a labelled node and another to cost nothing.
+    fn slack(&self, arc: Arc<N::Cost>) -> Option<Pick<N::Cost>>
+        requires { Fit N.Cost.CostKind.kind (length self.now.prices.now) arc }
+        ensures { result ≡ slack_of N.Cost.CostKind.kind self.now.prices.now self.now.marks.now arc }
+    {
+        let (from, to) = (arc.from - 1, arc.to - 1);
+        match (self.marks[from], self.marks[to]) {
+            (true, false) => Some(Pick {
+                place: to,
+                far: reduced(arc, self.prices),
+            }),
+            (false, true) => Some(Pick {
+                place: from,
+                far: opposite(reduced(arc, self.prices)),
+            }),
+            _ => None,
+        }
     }
-    best
+
+    // The nearest node over all arcs between labelled and unlabelled nodes.
+    fn nearest(&self) -> Option<Pick<N::Cost>>
+        ensures { result ≡ nearest_of N.Cost.CostKind.kind self.now.prices.now self.now.marks.now None (shown (N.meaning self.now.net.now)) }
+    {
+        let mut best = None;
+        for arc in arcs_of(self.net) {
+            best = choose(best, self.slack(arc));
+        }
+        best
+    }
+
+    // The node to label next.
+    pub fn next_pick(&self) -> Pick<N::Cost>
+        requires { 1 ≤ unmarked self.now.marks.now }
+        ensures { GoodPick N.Cost.CostKind.kind (shown (N.meaning self.now.net.now)) self.now.marks.now self.now.prices.now result }
+    {
+        match self.nearest() {
+            Some(p) => p,
+            None => {
+                let place = first_free(self.marks).unwrap_or(0);
+                let far = opposite(price_at(self.prices, place + 1));
+                Pick { place, far }
+            }
+        }
+    }
 }
 
 // The first place with no mark.
-fn first_free(marks: &[bool]) -> usize
-    requires { 1 ≤ unmarked marks.now }
-    ensures inside { result < length marks.now }
-    ensures free { slice_index_or marks.now result false ≡ false }
+fn first_free(marks: &[bool]) -> Option<usize>
+    ensures { result ≡ position not marks.now }
 {
-    for i in 0..marks.len() {
-        if !marks[i] {
-            return i;
-        }
-    }
-    0
-}
-
-// The node to label next.
-pub fn next_pick<N: Network>(net: &N, prices: &[N::Cost], marks: &[bool]) -> Pick<N::Cost>
-    requires fitting { Fitting N.Cost.CostKind.kind (length prices.now) (shown (N.meaning net.now)) }
-    requires moderate { Bounded N.Cost.CostKind.kind price_limit prices.now }
-    requires alike { length marks.now ≡ length prices.now }
-    requires some { 1 ≤ unmarked marks.now }
-    ensures { GoodPick N.Cost.CostKind.kind (shown (N.meaning net.now)) marks.now prices.now result }
-{
-    match nearest(net, prices, marks) {
-        Some(p) => p,
-        None => {
-            let place = first_free(marks);
-            let far = opposite(price_at(prices, place + 1));
-            Pick { place, far }
-        }
-    }
+    marks.iter().position(|m| !*m)
 }

@@ -1,28 +1,13 @@
 // The loop that labels every node in turn and changes the prices of those that are left.
 
-ghost use Rattle.std.specs.Prelude.{◌≡◌, ℕ, ◌+◌, ◌-◌, ◌*◌, ◌<◌, ◌≤◌, true, false, cond, List, length, None};
+ghost use Rattle.std.specs.Prelude.{◌≡◌, ℕ, ◌≤◌, length};
 ghost use Rattle.networks.specs.Nets.{shown};
-ghost use Rattle.flows.specs.Fits.{Fit, Fitting, Bounded, price_limit, change_limit, found_limit};
-ghost use Rattle.tidy.specs.Picks.{unmarked, Raised, Tidied};
+ghost use Rattle.flows.specs.Fits.{Fitting, Bounded, found_limit};
+ghost use Rattle.tidy.specs.Picks.{unmarked, Tidied};
 
-use crate::picks::next_pick;
-use costs::CostKind;
-use flows::sum;
+use crate::picks::Marked;
+use flows::raise;
 use networks::Network;
-
-// Adds a cost to each price with no mark.
-fn raise<C: CostKind>(prices: &mut [C], marks: &[bool], by: C)
-    requires moderate { Bounded C.CostKind.kind price_limit prices.old }
-    requires alike { length marks.now ≡ length prices.old }
-    requires some { C.CostKind.kind.size by ≤ change_limit }
-    ensures { Raised C.CostKind.kind by marks.now prices.old prices.new }
-{
-    for i in 0..prices.len() {
-        if !marks[i] {
-            prices[i] = sum(prices[i], by);
-        }
-    }
-}
 
 // Labels every node in turn, with marks lent for it of which none is set.
 fn label_all<N: Network>(net: &N, prices: &mut [N::Cost], marks: &mut [bool])
@@ -33,9 +18,9 @@ fn label_all<N: Network>(net: &N, prices: &mut [N::Cost], marks: &mut [bool])
     requires clear { unmarked marks.old ≡ length marks.old }
     ensures { Tidied N.Cost.CostKind.kind (shown (N.meaning net.now)) prices.old prices.new }
 {
-    for i in 0..prices.len() {
-        let p = next_pick(net, prices, marks);
-        raise(prices, marks, p.far);
+    for _ in 0..prices.len() {
+        let p = Marked { net, prices, marks }.next_pick();
+        raise(prices, p.far, |i| marks[i]);
         marks[p.place] = true;
     }
 }
