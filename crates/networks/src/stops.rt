@@ -5,7 +5,7 @@ ghost use Rattle.networks.specs.Stops.{told, stop_text};
 
 use std::fmt;
 
-#[derive(Clone, Copy, Debug, PartialEq)]
+#[derive(Clone, Copy, Debug, PartialEq, Eq)]
 pub enum Stop {
     // N is 0 or above 256, or A is above 1,024.
     Counts,
