@@ -46,13 +46,13 @@ pub trait CostKind: Copy {
 }
 
 // One whole number.
-#[derive(Clone, Copy, Debug, PartialEq)]
+#[derive(Clone, Copy, Debug, PartialEq, Eq, PartialOrd, Ord)]
 pub struct Plain {
     pub units: i64,
 }
 
-// Two whole numbers: the first decides, the second breaks ties.
-#[derive(Clone, Copy, Debug, PartialEq)]
+// Two whole numbers: the first decides, the second breaks ties, as the fields' order gives it.
+#[derive(Clone, Copy, Debug, PartialEq, Eq, PartialOrd, Ord)]
 pub struct TwoTier {
     pub first: i64,
     pub second: i64,
@@ -62,37 +62,25 @@ pub struct TwoTier {
 fn limited(x: i64) -> Option<i64>
     ensures { result ≡ answered unsigned_abs x }
 {
-    if x > SIZE_LIMIT || x < -SIZE_LIMIT {
-        return None;
-    }
-    Some(x)
+    (x.unsigned_abs() <= SIZE_LIMIT as u64).then_some(x)
 }
 
 fn sum(a: i64, b: i64) -> Option<i64>
     ensures { result ≡ answered unsigned_abs (a +ℤ b) }
 {
-    let Some(x) = a.checked_add(b) else {
-        return None;
-    };
-    limited(x)
+    a.checked_add(b).and_then(limited)
 }
 
 fn product(k: i32, a: i64) -> Option<i64>
     ensures { result ≡ answered unsigned_abs (k *ℤ a) }
 {
-    let Some(x) = (k as i64).checked_mul(a) else {
-        return None;
-    };
-    limited(x)
+    i64::from(k).checked_mul(a).and_then(limited)
 }
 
 fn negative(a: i64) -> Option<i64>
     ensures { result ≡ answered unsigned_abs (neg_ℤ a) }
 {
-    let Some(x) = a.checked_neg() else {
-        return None;
-    };
-    limited(x)
+    a.checked_neg().and_then(limited)
 }
 
 impl CostKind for Plain {
@@ -105,28 +93,25 @@ impl CostKind for Plain {
     }
 
     fn plus(self, other: Plain) -> Option<Plain> {
-        let Some(units) = sum(self.units, other.units) else {
-            return None;
-        };
-        Some(Plain { units })
+        Some(Plain {
+            units: sum(self.units, other.units)?,
+        })
     }
 
     fn negated(self) -> Option<Plain> {
-        let Some(units) = negative(self.units) else {
-            return None;
-        };
-        Some(Plain { units })
+        Some(Plain {
+            units: negative(self.units)?,
+        })
     }
 
     fn times(self, k: i32) -> Option<Plain> {
-        let Some(units) = product(k, self.units) else {
-            return None;
-        };
-        Some(Plain { units })
+        Some(Plain {
+            units: product(k, self.units)?,
+        })
     }
 
     fn at_most(self, other: Plain) -> bool {
-        self.units <= other.units
+        self <= other
     }
 
     fn size(self) -> u64 {
@@ -138,13 +123,10 @@ impl CostKind for Plain {
 fn both(first: Option<i64>, second: Option<i64>) -> Option<TwoTier>
     ensures { result ≡ joined first second }
 {
-    let Some(first) = first else {
-        return None;
-    };
-    let Some(second) = second else {
-        return None;
-    };
-    Some(TwoTier { first, second })
+    Some(TwoTier {
+        first: first?,
+        second: second?,
+    })
 }
 
 impl CostKind for TwoTier {
@@ -172,7 +154,7 @@ impl CostKind for TwoTier {
     }
 
     fn at_most(self, other: TwoTier) -> bool {
-        self.first < other.first || (self.first == other.first && self.second <= other.second)
+        self <= other
     }
 
     fn size(self) -> u64 {

@@ -8,7 +8,7 @@ use Rattle.hours.specs.declared.chain.Source.{Source}
 use Rattle.hours.specs.declared.chain.Source.TheVariants.{Sun, Mains, Generator, Lamp, Battery}
 use Rattle.hours.specs.declared.chain.HourRow.{HourRow}
 use Rattle.hours.specs.declared.chain.HourChain.{HourChain}
-use Rattle.makes.specs.Bases.{base_net, unfit_net, made_net, arcs_from}
+use Rattle.makes.specs.Bases.{base_net, unfit_net, arcs_from, kept_net}
 
 abbrev pub most_hours : ℕ
 most_hours = 48
@@ -44,5 +44,6 @@ hour_arc H a r = record { from = (ends H (hour_of a) (source_of a)).0; to = (end
 abbrev pub hours_net : {C : Type 0} → ℕ → List (HourRow C) → Net C
 hours_net H rows = unless (chain_stop H (length rows)) unfit_net (base_net (H + 1) (arcs_from (hour_arc H) 1 rows))
 
+-- what a chain shows: of its nodes, all but one are hours
 abbrev pub chain_net : {C : Type 0} → HourChain C → Net C
-chain_net c = made_net c.fit (c.hours + 1) (arcs_from (hour_arc c.hours) 1 c.rows.now)
+chain_net c = kept_net (λ n. hour_arc (n - 1)) c.kept

@@ -1,12 +1,17 @@
 // The hour chain: a network of hours whose bounds and costs are kept in a lent table, and whose ends are worked out.
 
-ghost use Rattle.std.specs.Prelude.{◌≡◌, ℕ, ◌<◌, length};
+ghost use Rattle.std.specs.Prelude.{◌≡◌, ℕ, ◌-◌, ◌<◌, length, refl};
 ghost use Rattle.networks.specs.Answers.{answer, said};
 ghost use Rattle.hours.specs.Hours.{chain_stop, chain_net, hours_net, hour_of as the_hour_of, source_of, ends, hour_arc};
 
 use costs::CostKind;
-use makes::place_of;
+use makes::{ArcRow, Kept};
 use networks::{Arc, Bounds, Network, Stop, Tag};
+
+// The most hours of a chain, and how many arcs each has.
+const MOST_HOURS: usize = 48;
+
+const ARCS: usize = 5;
 
 // What the arcs of an hour stand for, in the order of their numbers.
 #[derive(Clone, Copy)]
@@ -26,44 +31,12 @@ pub struct HourRow<C> {
     pub cost: C,
 }
 
-// Hours that are fit go into a byte, so that counting one node more cannot overflow.
-#[derive(Drop)]
-pub struct HourChain<'a, C> {
-    hours: u8,
-    rows: &'a mut [HourRow<C>],
-    fit: bool,
-}
-
-impl<'a, C> HourChain<'a, C> {
-    // Why a chain of so many hours cannot be made of these rows, if so.
-    pub fn check(hours: usize, rows: &[HourRow<C>]) -> Result<(), Stop>
-        ensures { said result ≡ answer (chain_stop hours (length rows.now)) tt }
-    {
-        if hours == 0 || hours > 48 {
-            return Err(Stop::Counts);
-        }
-        if rows.len() != 5 * hours {
-            return Err(Stop::Lengths);
-        }
-        Ok(())
-    }
-
-    // The chain; one of unfit parts shows no node and no arc.
-    pub fn new(hours: usize, rows: &'a mut [HourRow<C>]) -> HourChain<'a, C>
-        ensures { chain_net result ≡ hours_net hours rows.old }
-    {
-        let fit = Self::check(hours, rows).is_ok();
-        let hours = if fit { hours as u8 } else { 0 };
-        HourChain { hours, rows, fit }
-    }
-}
-
 // The hour of arc a.
 fn hour_of(a: usize) -> usize
     requires { 0 < a }
     ensures { result ≡ the_hour_of a }
 {
-    1 + (a - 1) / 5
+    1 + (a - 1) / ARCS
 }
 
 // The source of arc a.
@@ -71,7 +44,7 @@ fn source_of(a: usize) -> Source
     requires { 0 < a }
     ensures { result ≡ source_of a }
 {
-    match (a - 1) % 5 {
+    match (a - 1) % ARCS {
         0 => Source::Sun,
         1 => Source::Mains,
         2 => Source::Generator,
@@ -80,12 +53,13 @@ fn source_of(a: usize) -> Source
     }
 }
 
-// Where arc a runs from and to; the last hour's battery leads back to the first hour.
-fn ends(hours: u8, a: usize) -> (usize, usize)
+// Where arc a runs from and to over so many nodes, of which the last is what lies outside the hours; the last
+// hour's battery leads back to the first hour.
+fn ends(nodes: usize, a: usize) -> (usize, usize)
     requires { 0 < a }
-    ensures { result ≡ ends hours (the_hour_of a) (source_of a) }
+    ensures { result ≡ ends (nodes - 1) (the_hour_of a) (source_of a) }
 {
-    let last = hours as usize;
+    let last = nodes.saturating_sub(1);
     let outside = last + 1;
     let hour = hour_of(a);
     match source_of(a) {
@@ -96,21 +70,70 @@ fn ends(hours: u8, a: usize) -> (usize, usize)
     }
 }
 
-// The row of arc a as an arc: nothing is held or fixed.
-fn shown<C>(hours: u8, a: usize, row: HourRow<C>) -> Arc<C>
-    requires { 0 < a }
-    ensures { result ≡ hour_arc hours a row }
-{
-    let (from, to) = ends(hours, a);
-    let HourRow { lo, hi, cost } = row;
-    Arc {
-        from,
-        to,
-        lo,
-        hi,
-        cost,
-        held: false,
-        fixed: false,
+// The ends of a row are worked out from its number.
+impl<C: CostKind> ArcRow for HourRow<C> {
+    type Cost = C;
+
+    ghost arc_of = { λ n. hour_arc (n - 1) };
+
+    ghost free = { λ n a r. refl };
+
+    ghost loose = { λ n a r. refl };
+
+    fn as_arc(self, nodes: usize, a: usize) -> Arc<C> {
+        let (from, to) = ends(nodes, a);
+        Arc {
+            from,
+            to,
+            lo: self.lo,
+            hi: self.hi,
+            cost: self.cost,
+            held: false,
+            fixed: false,
+        }
+    }
+
+    fn rebound(self, b: Bounds) -> HourRow<C> {
+        HourRow {
+            lo: b.lo(),
+            hi: b.hi(),
+            ..self
+        }
+    }
+
+    fn recost(self, c: C) -> HourRow<C> {
+        HourRow { cost: c, ..self }
+    }
+}
+
+// Its nodes are the hours and what lies outside them.
+#[derive(Drop)]
+pub struct HourChain<'a, C> {
+    kept: Kept<'a, HourRow<C>>,
+}
+
+impl<'a, C> HourChain<'a, C> {
+    // Why a chain of so many hours cannot be made of these rows, if so.
+    pub fn check(hours: usize, rows: &[HourRow<C>]) -> Result<(), Stop>
+        ensures { said result ≡ answer (chain_stop hours (length rows.now)) tt }
+    {
+        if hours == 0 || hours > MOST_HOURS {
+            return Err(Stop::Counts);
+        }
+        if rows.len() != ARCS * hours {
+            return Err(Stop::Lengths);
+        }
+        Ok(())
+    }
+
+    // The chain; one of unfit parts shows no node and no arc.
+    pub fn new(hours: usize, rows: &'a mut [HourRow<C>]) -> HourChain<'a, C>
+        ensures { chain_net result ≡ hours_net hours rows.old }
+    {
+        let fit = Self::check(hours, rows);
+        HourChain {
+            kept: Kept::over(fit, hours.saturating_add(1), rows),
+        }
     }
 }
 
@@ -120,54 +143,34 @@ impl<C: CostKind> Network for HourChain<'_, C> {
     ghost meaning = { chain_net };
 
     fn nodes(&self) -> usize {
-        if self.fit { self.hours as usize + 1 } else { 0 }
+        self.kept.nodes()
     }
 
     fn arcs(&self) -> usize {
-        if self.fit { self.rows.len() } else { 0 }
+        self.kept.arcs()
     }
 
     fn lockouts(&self) -> usize {
-        0
+        self.kept.lockouts()
     }
 
     fn arc(&self, a: usize) -> Option<Arc<C>> {
-        let Some(i) = place_of(self.arcs(), a) else {
-            return None;
-        };
-        let rows: &[HourRow<C>] = self.rows;
-        Some(shown(self.hours, a, rows[i]))
+        self.kept.arc(a)
     }
 
     fn rebound(&mut self, a: usize, b: Bounds) -> Result<(), Stop> {
-        let Some(i) = place_of(self.arcs(), a) else {
-            return Err(Stop::Absent(a));
-        };
-        let mut row = self.rows[i];
-        row.lo = b.lo();
-        row.hi = b.hi();
-        self.rows[i] = row;
-        Ok(())
+        self.kept.rebound(a, b)
     }
 
     fn recost(&mut self, a: usize, c: C) -> Result<(), Stop> {
-        let Some(i) = place_of(self.arcs(), a) else {
-            return Err(Stop::Absent(a));
-        };
-        if c.size() > 1_000_000 {
-            return Err(Stop::Cost(a));
-        }
-        let mut row = self.rows[i];
-        row.cost = c;
-        self.rows[i] = row;
-        Ok(())
+        self.kept.recost(a, c)
     }
 
-    fn take_out(&mut self, _layer: usize, a: usize) -> Result<Tag, Stop> {
-        Err(Stop::Absent(a))
+    fn take_out(&mut self, layer: usize, a: usize) -> Result<Tag, Stop> {
+        self.kept.take_out(layer, a)
     }
 
-    fn hand_back(&mut self, _layer: usize, tag: Tag) -> Result<(), (Stop, Tag)> {
-        Err((Stop::NotOut(tag.arc()), tag))
+    fn hand_back(&mut self, layer: usize, tag: Tag) -> Result<(), (Stop, Tag)> {
+        self.kept.hand_back(layer, tag)
     }
 }

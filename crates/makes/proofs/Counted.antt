@@ -1,5 +1,5 @@
 -- Rows that count from 1, and the arcs that are made of them.
-use Rattle.std.proofs.Common.{◌≡◌, ℕ, zero, suc, ◌+◌, ◌-◌, ◌<◌, Bool, true, false, cond, ◌||◌, eqb, ltb, List, [], ◌∷◌, map, length, set, Some, None, sym, refl, ap, ◌∙◌, arith, ltb-false, ltb-true}
+use Rattle.std.proofs.Common.{◌≡◌, ℕ, zero, suc, ◌+◌, ◌-◌, ◌<◌, Bool, true, false, cond, ◌||◌, eqb, ltb, List, [], ◌∷◌, length, set, Some, None, sym, refl, ap, ◌∙◌, arith, ltb-false, ltb-true}
 use borrow.Author.Tests.{eqb-false}
 use Rattle.std.specs.List.{slice_get}
 use Rattle.std.specs.Option.{option_map}
@@ -32,13 +32,6 @@ a_place n a i = go (eqb a 0) (ltb n a) refl refl
 pub some_row : {X : Type 0} (xs : List X) (i : ℕ) → i < length xs → X
 some_row [] i l = absurd (omega arith)
 some_row (x ∷ xs) i l = x
-
--- ---- rows turned into arcs, whatever their numbers
-
-pub nth_map : {X Y : Type 0} (f : X → Y) (xs : List X) (i : ℕ) → slice_get (map f xs) i ≡ option_map f (slice_get xs i)
-nth_map f [] i = refl
-nth_map f (x ∷ xs) zero = refl
-nth_map f (x ∷ xs) (suc i) = nth_map f xs i
 
 -- ---- rows turned into arcs by their numbers
 

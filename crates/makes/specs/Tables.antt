@@ -5,7 +5,8 @@ use Rattle.networks.specs.Limits.{most_nodes, most_arcs}
 use Rattle.networks.specs.Answers.{Told, unless}
 use Rattle.networks.specs.Nets.{Net}
 use Rattle.makes.specs.declared.table.Row.{Row}
-use Rattle.makes.specs.declared.table.ArcTable.{ArcTable}
+use Rattle.makes.specs.declared.kept.Kept.{Kept}
+use Rattle.makes.specs.Bases.{kept_net}
 
 -- why no table is made: 1 for the counts, then 2 for the rows
 abbrev pub table_stop : ℕ → ℕ → ℕ → Option Told
@@ -22,5 +23,6 @@ plain_net nodes rows = record { nodes = nodes; arcs = map row_arc rows; locks = 
 abbrev pub rows_net : {C : Type 0} → ℕ → ℕ → List (Row C) → Net C
 rows_net nodes arcs rows = unless (table_stop nodes arcs (length rows)) (plain_net 0 []) (plain_net nodes rows)
 
-abbrev pub table_net : {C : Type 0} → ArcTable C → Net C
-table_net t = cond t.fit (plain_net t.nodes t.rows.now) (plain_net 0 [])
+-- what a table shows: each of its rows is an arc as it stands
+abbrev pub table_net : {C : Type 0} → Kept (Row C) → Net C
+table_net t = kept_net (λ n a r. row_arc r) t

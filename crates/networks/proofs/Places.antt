@@ -1,21 +1,9 @@
 -- The first place of a number in a list.
-use Rattle.std.proofs.Common.{◌≡◌, ℕ, suc, ◌+◌, ◌<◌, ◌≤◌, Bool, true, false, cond, eqb, List, [], ◌∷◌, length, get_or, drop, set, refl, ap, ◌∙◌, arith}
-use Rattle.std.proofs.lemmas.List.{drop_more, drop_all}
-use Rattle.std.proofs.lemmas.Bool.{cond-true, cond-false, eq-eqb, ne_eqb, eqb-true}
+use Rattle.std.proofs.Common.{◌≡◌, ℕ, suc, ◌<◌, ◌≤◌, Bool, true, false, cond, eqb, List, [], ◌∷◌, length, get_or, set, refl, ap, ◌∙◌, arith}
+use Rattle.std.proofs.lemmas.Bool.{cond-true, cond-false, eq-eqb, eqb-true}
 use Rattle.networks.specs.Nets.{place}
 
--- ---- in a loop over the list
-
-pub place_here : (x : ℕ) (xs : List ℕ) (i : ℕ) → i < length xs → get_or xs i 0 ≡ x → place x (drop i xs) ≡ 0
-place_here x xs i l e = ap (place x) (drop_more xs i 0 l) ∙ cond-true _ _ _ (eq-eqb _ _ e)
-
-pub place_next : (x : ℕ) (xs : List ℕ) (i : ℕ) → i < length xs → (get_or xs i 0 ≡ x → ⊥) → place x (drop i xs) ≡ suc (place x (drop (i + 1) xs))
-place_next x xs i l e = ap (place x) (drop_more xs i 0 l) ∙ cond-false _ _ _ (ne_eqb _ _ e)
-
-pub place_end : (x : ℕ) (xs : List ℕ) (i : ℕ) → length xs ≤ i → place x (drop i xs) ≡ 0
-place_end x xs i l = ap (place x) (drop_all i xs l)
-
--- ---- what stands there, and a number written over it
+-- what stands there, and a number written over it
 
 place_at' : (b : Bool) (x y : ℕ) (ys : List ℕ) → eqb y x ≡ b → (place x ys < length ys → get_or ys (place x ys) 0 ≡ x) → cond b 0 (suc (place x ys)) < suc (length ys) → get_or (y ∷ ys) (cond b 0 (suc (place x ys))) 0 ≡ x
 place_at' true x y ys q more h = eqb-true y x q

@@ -39,6 +39,14 @@ place x (y ∷ ys) = cond (y == x) 0 (suc (place x ys))
 abbrev pub has : ℕ → List ℕ → Bool
 has x ys = nat_lt (place x ys) (length ys)
 
+-- the place of x, where it is there
+abbrev pub line_with : ℕ → List ℕ → Option ℕ
+line_with x ys = cond (has x ys) (Some (place x ys)) None
+
+-- the place of arc a: a place that holds 0 is free
+abbrev pub arc_line : ℕ → List ℕ → Option ℕ
+arc_line a ys = cond (a == 0) None (line_with a ys)
+
 -- arc a is out at one lock-out
 abbrev pub out_at : Lock → ℕ → Bool
 out_at o a = cond (a == 0) false (has a o.lines)

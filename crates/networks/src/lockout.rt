@@ -1,51 +1,47 @@
 // Lock-out: a network with up to 16 of its arcs taken out.
 
 ghost use Rattle.std.specs.Prelude.{◌≡◌, ℕ, suc, length, replicate, ◌==◌};
-ghost use Rattle.networks.specs.Nets.{place, out_at, shut};
+ghost use Rattle.networks.specs.Nets.{line_with, arc_line as arc_line_of, out_at, shut};
 ghost use Rattle.networks.specs.Locks.{locked_net, lock_over};
 
 use crate::{Arc, Bounds, Network, Stop, Tag};
 
-// Each line holds the number of an arc that is out, or 0 where it is free.
+// How many arcs a lock-out can have out.
+const LINES: usize = 16;
+
+// Each line holds the number of an arc that is out, or 0 where it is free: what a lock-out means is a list
+// of such numbers, and there is no arc 0.
 #[derive(Drop)]
 pub struct Lockout<N> {
     below: N,
-    lines: [usize; 16],
+    lines: [usize; LINES],
 }
 
-// The first line that holds x, or the number of lines.
-pub(crate) fn line_of(lines: &[usize], x: usize) -> usize
-    ensures { result ≡ place x lines.now }
+// The first line that holds x.
+pub(crate) fn line_of(lines: &[usize], x: usize) -> Option<usize>
+    ensures { result ≡ line_with x lines.now }
 {
-    for (i, line) in lines.iter().enumerate() {
-        if *line == x {
-            return i;
+    lines.iter().position(|line| *line == x)
+}
+
+// The first line that holds arc a; a line that holds 0 is free.
+pub(crate) fn arc_line(lines: &[usize], a: usize) -> Option<usize>
+    ensures { result ≡ arc_line_of a lines.now }
+{
+    if a == 0 { None } else { line_of(lines, a) }
+}
+
+impl<C> Arc<C> {
+    // The arc as it shows where it is out: 0 to 0, and held.
+    fn shut_off(self) -> Arc<C>
+        ensures { result ≡ shut self }
+    {
+        Arc {
+            lo: 0,
+            hi: 0,
+            held: true,
+            ..self
         }
-    }
-    lines.len()
-}
-
-// An arc that is out: 0 to 0, and held.
-fn shut_off<C>(x: Arc<C>) -> Arc<C>
-    ensures { result ≡ shut x }
-{
-    let Arc {
-        from,
-        to,
-        lo: _,
-        hi: _,
-        cost,
-        held: _,
-        fixed,
-    } = x;
-    Arc {
-        from,
-        to,
-        lo: 0,
-        hi: 0,
-        cost,
-        held: true,
-        fixed,
     }
 }
 
@@ -56,7 +52,7 @@ impl<N> Lockout<N> {
     {
         Lockout {
             below,
-            lines: [0; 16],
+            lines: [0; LINES],
         }
     }
 }
@@ -73,7 +69,7 @@ impl<N: Network> Lockout<N> {
     fn is_out(&self, a: usize) -> bool
         ensures { result ≡ out_at (lock_over (N.Network.meaning self.now.below).arcs self.now.lines) a }
     {
-        a != 0 && line_of(&self.lines, a) < 16
+        arc_line(&self.lines, a).is_some()
     }
 }
 
@@ -95,14 +91,8 @@ impl<N: Network> Network for Lockout<N> {
     }
 
     fn arc(&self, a: usize) -> Option<Arc<N::Cost>> {
-        let found = self.below.arc(a);
-        if !self.is_out(a) {
-            return found;
-        }
-        match found {
-            Some(x) => Some(shut_off(x)),
-            None => None,
-        }
+        let x = self.below.arc(a)?;
+        Some(if self.is_out(a) { x.shut_off() } else { x })
     }
 
     fn rebound(&mut self, a: usize, b: Bounds) -> Result<(), Stop> {
@@ -129,10 +119,7 @@ impl<N: Network> Network for Lockout<N> {
         if self.is_out(a) {
             return Err(Stop::Held(a));
         }
-        let free = line_of(&self.lines, 0);
-        if free >= 16 {
-            return Err(Stop::Full);
-        }
+        let free = line_of(&self.lines, 0).ok_or(Stop::Full)?;
         self.lines[free] = a;
         Ok(Tag::new(a))
     }
@@ -142,10 +129,9 @@ impl<N: Network> Network for Lockout<N> {
             return self.below.hand_back(layer, tag);
         }
         let a = tag.arc();
-        if !self.is_out(a) {
+        let Some(line) = arc_line(&self.lines, a) else {
             return Err((Stop::NotOut(a), tag));
-        }
-        let line = line_of(&self.lines, a);
+        };
         self.lines[line] = 0;
         tag.spend();
         Ok(())

@@ -10,7 +10,7 @@ use costs::CostKind;
 
 // An arc as a network shows it. Its bounds are plain numbers and may be unfit. Held: it cannot be
 // rebound. Fixed: its cost cannot be replaced.
-#[derive(Clone, Copy)]
+#[derive(Clone, Copy, Debug, PartialEq, Eq)]
 pub struct Arc<C> {
     pub from: usize,
     pub to: usize,

@@ -7,12 +7,12 @@ ghost use Rattle.networks.specs.Answers.{answer, said, unless};
 ghost use Rattle.networks.specs.Nets.{has, take_out_stop, taken, hand_back_stop, handed_back};
 ghost use Rattle.networks.specs.Rings.{free_of_tags, keeps, put_in, put_in_answer, given_out, given_out_answer, with_tag, without_tag, closed};
 
-use crate::lockout::line_of;
+use crate::lockout::{arc_line, line_of};
 use crate::{Network, Stop, Tag};
 
-// Each place holds the number of an arc whose tag is kept, or 0 where it is free.
+// Each place holds the number of an arc whose tag is kept, or 0 where it is free, as a lock-out's lines do.
 pub struct TagRing {
-    places: [usize; 64],
+    places: [usize; TagRing::ROOM],
 }
 
 impl Drop for TagRing {
@@ -28,12 +28,7 @@ impl Drop for TagRing {
 fn all_free(places: &[usize]) -> bool
     ensures { result ≡ free_of_tags places.now }
 {
-    for place in places {
-        if *place != 0 {
-            return false;
-        }
-    }
-    true
+    places.iter().all(|place| *place == 0)
 }
 
 impl TagRing {
@@ -43,7 +38,9 @@ impl TagRing {
     pub fn new() -> TagRing
         ensures { result ≡ record { places = replicate 64 0 } }
     {
-        TagRing { places: [0; 64] }
+        TagRing {
+            places: [0; TagRing::ROOM],
+        }
     }
 
     // Lets an empty ring go; any other comes back.
@@ -63,13 +60,14 @@ impl TagRing {
         ensures leaves { self.new.places ≡ put_in self.old.places tag.arc }
     {
         let a = tag.arc();
-        let free = line_of(&self.places, 0);
-        if a == 0 || free >= 64 {
-            return Err(tag);
+        match line_of(&self.places, 0) {
+            Some(free) if a != 0 => {
+                self.places[free] = a;
+                tag.spend();
+                Ok(())
+            }
+            _ => Err(tag),
         }
-        self.places[free] = a;
-        tag.spend();
-        Ok(())
     }
 
     // Gives out a tag that names this arc, if it has one.
@@ -77,10 +75,7 @@ impl TagRing {
         ensures answers { result ≡ given_out_answer self.old.places a }
         ensures leaves { self.new.places ≡ given_out self.old.places a }
     {
-        let at = line_of(&self.places, a);
-        if a == 0 || at >= 64 {
-            return None;
-        }
+        let at = arc_line(&self.places, a)?;
         self.places[at] = 0;
         Some(Tag::new(a))
     }
@@ -96,10 +91,7 @@ impl TagRing {
         ensures network { N.meaning net.new ≡ (if has 0 self.old.places then taken (N.meaning net.old) layer a else N.meaning net.old) }
         ensures ring { self.new.places ≡ (if has 0 self.old.places then unless (take_out_stop (N.meaning net.old) layer a) self.old.places (with_tag self.old.places a) else self.old.places) }
     {
-        let room = line_of(&self.places, 0);
-        if room >= 64 {
-            return None;
-        }
+        let room = line_of(&self.places, 0)?;
         match net.take_out(layer, a) {
             Err(stop) => Some(Err(stop)),
             Ok(tag) => {
@@ -121,10 +113,7 @@ impl TagRing {
         ensures network { N.meaning net.new ≡ (if keeps self.old.places a then handed_back (N.meaning net.old) layer a else N.meaning net.old) }
         ensures ring { self.new.places ≡ (if keeps self.old.places a then unless (hand_back_stop (N.meaning net.old) layer a) self.old.places (without_tag self.old.places a) else self.old.places) }
     {
-        let at = line_of(&self.places, a);
-        if a == 0 || at >= 64 {
-            return None;
-        }
+        let at = arc_line(&self.places, a)?;
         match net.hand_back(layer, Tag::new(a)) {
             Err((stop, tag)) => {
                 tag.spend();

@@ -1,9 +1,11 @@
 // Why a call refuses, with the number and the place that it is told by.
 
-ghost use Rattle.std.specs.Prelude.{◌≡◌, ℕ};
-ghost use Rattle.networks.specs.Stops.{told};
+ghost use Rattle.std.specs.Prelude.{◌≡◌, ℕ, Some};
+ghost use Rattle.networks.specs.Stops.{told, stop_text};
 
-#[derive(Clone, Copy, Debug, PartialEq)]
+use std::fmt;
+
+#[derive(Clone, Copy, Debug, PartialEq, Eq)]
 pub enum Stop {
     // N is 0 or above 256, or A is above 1,024.
     Counts,
@@ -60,5 +62,16 @@ impl Stop {
             Stop::Held(a) | Stop::Fixed(a) | Stop::NotOut(a) => a,
             Stop::Imbalance(n) | Stop::Absent(n) => n,
         }
+    }
+}
+
+// A stop prints as its number and its place.
+impl fmt::Display for Stop {
+    ghost output = { λ s. Some (stop_text s) };
+
+    fn fmt<W: fmt::Write>(&self, f: &mut fmt::Formatter<W>) -> fmt::Result {
+        let number = self.number();
+        let place = self.place();
+        write!(f, "{number} {place}")
     }
 }

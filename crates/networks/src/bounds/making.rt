@@ -11,16 +11,10 @@ impl Bounds {
     pub fn new(lo: i32, hi: i32) -> Result<Bounds, Stop>
         ensures { read_bounds result ≡ made_bounds lo hi }
     {
-        if lo > hi {
-            return Err(Stop::Bounds(0));
+        if -Self::LIMIT <= lo && lo <= hi && hi <= Self::LIMIT {
+            return Ok(Bounds { lo, hi });
         }
-        if lo < -Self::LIMIT {
-            return Err(Stop::Bounds(0));
-        }
-        if hi > Self::LIMIT {
-            return Err(Stop::Bounds(0));
-        }
-        Ok(Bounds { lo, hi })
+        Err(Stop::Bounds(0))
     }
 
     pub fn lo(self) -> i32

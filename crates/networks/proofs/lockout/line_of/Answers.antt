@@ -1,12 +1,13 @@
-use Rattle.std.proofs.Common.{arith}
-use Rattle.networks.proofs.Places.{place_here, place_next, place_end}
+use Rattle.std.proofs.Common.{◌≡◌, suc, ◌+◌, cond, eqb, ltb, length, Some, None, sym, refl, ap, ◌∙◌, arith, rules, tests}
+use Rattle.std.proofs.lemmas.Iterator.{YieldsList-from_slice}
+use Rattle.std.proofs.lemmas.Iterator.Search.{position_from_yields_List}
+use Rattle.std.proofs.lemmas.List.Recursion.{is_position_or_len}
+use Rattle.networks.specs.Nets.{place}
 use Rattle.networks.proofs.lockout.line_of.Goals as goal
 
-pub returns-then-line-x : goal.returns-then-line-x
-returns-then-line-x c = omega (arith, place_here c.args.x c.args.lines.now c.loop-i.i (omega arith) c.if-line-x.true)
-
-pub loop-i-preserved : goal.loop-i-preserved
-loop-i-preserved c = omega (arith, place_next c.args.x c.args.lines.now c.loop-i.i (omega arith) c.if-line-x.false)
-
 pub returns : goal.returns
-returns c = omega (arith, place_end c.args.x c.args.lines.now c.loop-i.i (omega arith))
+returns c =
+    let x = c.args.x in
+    let xs = c.args.lines.now in
+    position_from_yields_List (λ y. eqb y x) _ _ _ c.position.ensures.ran (YieldsList-from_slice xs (cc)) (λ y b q k. search (rules, tests))
+    ∙ ap (λ n. cond (ltb n (length xs)) (Some n) None) (sym (is_position_or_len (place x) (λ y. eqb y x) refl (λ y ys. let e : suc (place x ys) ≡ 1 + place x ys = omega arith in ap (cond (eqb y x) 0) e) xs))
