@@ -3,7 +3,7 @@
 ghost use Rattle.std.specs.Prelude.{◌≡◌, ℕ, ◌+◌, ◌^◌, ◌<◌, ◌≤◌, length, IfOk};
 ghost use Rattle.std.specs.Char.{is_ascii_digit, is_ascii_lowercase};
 ghost use Rattle.std.specs.List.{prefix_len};
-ghost use Rattle.tokens.specs.Tokens.{ sign_of, shape, bytes_of, shown, number_at, front_of, Within, decimal, value_of};
+ghost use Rattle.tokens.specs.Tokens.{sign_of, shape, bytes_of, shown, number_at, front_of, Within, decimal, value_of};
 
 use crate::Cause;
 
@@ -94,6 +94,7 @@ impl<'a> Token<'a> {
 }
 
 // What at most 7 digits say.
+#[tactic(auto, using(crate::proofs::Tens::most_tens))]
 fn magnitude(digits: &[u8]) -> u32
     requires { length digits.now ≤ 7 }
     ensures within { result < 2 ^ 31 }
