@@ -50,11 +50,11 @@ impl<'a> Cursor<'a> {
         }
     }
 
-    // Where the next byte stands.
-    pub fn spot(&self) -> Spot
-        ensures { result ≡ self.now.spot }
+    // The line of the next byte.
+    pub fn line(&self) -> usize
+        ensures { result ≡ self.now.spot.line }
     {
-        self.spot
+        self.spot.line
     }
 
     // Whether no byte is left.
@@ -79,8 +79,7 @@ impl<'a> Cursor<'a> {
         ensures is { shown_token result ≡ token_at self.now }
     {
         let spot = self.spot;
-        let token = front(self.rest).map_err(|cause| LineFault { spot, cause })?;
-        Ok(token)
+        front(self.rest).map_err(|cause| LineFault { spot, cause })
     }
 
     // Steps over the token that is next; a line feed ends its line.
@@ -90,13 +89,17 @@ impl<'a> Cursor<'a> {
     {
         let bytes = token.bytes().len();
         self.rest = &self.rest[bytes..];
-        match token {
-            Token::LineFeed => {
-                self.spot.line += 1;
-                self.spot.place = 1;
-            }
-            _ => self.spot.place += bytes,
-        }
+        let Spot { line, place } = self.spot;
+        self.spot = match token {
+            Token::LineFeed => Spot {
+                line: line + 1,
+                place: 1,
+            },
+            _ => Spot {
+                line,
+                place: place + bytes,
+            },
+        };
     }
 
     // Steps over the token with these bytes.
