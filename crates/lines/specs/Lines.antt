@@ -13,7 +13,7 @@ use Rattle.tokens.specs.declared.scan.Token.{Token}
 use Rattle.tokens.specs.Faults.{bounds_fault}
 use Rattle.tokens.specs.Tokens.{Shape, number, value_of, shape, bytes_of, front_of}
 use Rattle.lines.specs.declared.Numeral.{Numeral}
-use Rattle.lines.specs.Readings.{Reading, past, fault_at, then}
+use Rattle.lines.specs.Readings.{Reading, Outcome, past, fault_at, ended, then}
 
 -- the token that is next, by its bytes
 abbrev pub token_or : Reading → Result Shape Cause → Result Shape LineFault
@@ -28,40 +28,40 @@ shown_token (Ok t) = Ok (shape t)
 shown_token (Err e) = Err e
 
 -- past the token, if it has the bytes that are due
-abbrev pub expected : List ℕ → Reading → Result Shape LineFault → Result (Unit {0}) LineFault × Reading
-expected due r (Ok s) = cond (bytes_eq (bytes_of s) due) (Ok tt, past s r) (Err (fault_at r cause.NotDue), r)
-expected due r (Err e) = (Err e, r)
+abbrev pub expected : List ℕ → Reading → Result Shape LineFault → Outcome (Unit {0})
+expected due r (Ok s) = cond (bytes_eq (bytes_of s) due) (Ok (tt, past s r)) (Err (fault_at r cause.NotDue, r))
+expected due r (Err e) = Err (e, r)
 
-abbrev pub expects : List ℕ → Reading → Result (Unit {0}) LineFault × Reading
+abbrev pub expects : List ℕ → Reading → Outcome (Unit {0})
 expects due r = expected due r (token_at r)
 
 -- a bracket, a name and a space
-abbrev pub starts : List ℕ → Reading → Result (Unit {0}) LineFault × Reading
+abbrev pub starts : List ℕ → Reading → Outcome (Unit {0})
 starts name r = then (expects (codes "(") r) (λ _ s. then (expects name s) (λ _ t. expects (codes " ") t))
 
 -- the number that a token is
-abbrev pub numeral : Reading → Result Shape LineFault → Result Numeral LineFault × Reading
-numeral r (Ok (number w)) = (Ok (record { value = value_of w; spot = r.spot }), past (number w) r)
-numeral r (Ok s) = (Err (fault_at r cause.NotDue), r)
-numeral r (Err e) = (Err e, r)
+abbrev pub numeral : Reading → Result Shape LineFault → Outcome Numeral
+numeral r (Ok (number w)) = Ok (record { value = value_of w; spot = r.spot }, past (number w) r)
+numeral r (Ok s) = Err (fault_at r cause.NotDue, r)
+numeral r (Err e) = Err (e, r)
 
-abbrev pub number_in : Reading → Result Numeral LineFault × Reading
+abbrev pub number_in : Reading → Outcome Numeral
 number_in r = numeral r (token_at r)
 
 -- what a number says, from the least to the most
 abbrev pub ranged : ℤ → ℤ → Numeral → Result ℤ LineFault
 ranged least most m = cond (int_le least m.value && int_le m.value most) (Ok m.value) (Err (record { spot = m.spot; cause = cause.Range }))
 
-abbrev pub within_in : ℤ → ℤ → Reading → Result ℤ LineFault × Reading
-within_in least most r = then (number_in r) (λ m s. (ranged least most m, s))
+abbrev pub within_in : ℤ → ℤ → Reading → Outcome ℤ
+within_in least most r = then (number_in r) (λ m s. ended (ranged least most m) s)
 
 -- a count in brackets, after its name
-abbrev pub count_in : List ℕ → ℕ → ℕ → Reading → Result ℕ LineFault × Reading
+abbrev pub count_in : List ℕ → ℕ → ℕ → Reading → Outcome ℕ
 count_in name least most r = then (starts name r) (λ _ s. then (within_in (pos least) (pos most) s) (λ v t.
-    then (expects (codes ")") t) (λ _ u. (Ok (unsigned_abs v), u))))
+    then (expects (codes ")") t) (λ _ u. Ok (unsigned_abs v, u))))
 
 -- the last bracket and the line feed
-abbrev pub finishes : Reading → Result (Unit {0}) LineFault × Reading
+abbrev pub finishes : Reading → Outcome (Unit {0})
 finishes r = then (expects (codes ")") r) (λ _ s. expects (10 ∷ []) s)
 
 -- the bounds that two numbers make; a fault stands at the upper one
@@ -78,13 +78,13 @@ shown_pair (Ok b) = Ok (b.lo, b.hi)
 shown_pair (Err e) = Err e
 
 -- the lower bound, in brackets after its name
-abbrev pub low_in : Reading → Result Numeral LineFault × Reading
-low_in r = then (starts (codes "lo") r) (λ _ s. then (number_in s) (λ lo t. then (expects (codes ")") t) (λ _ u. (Ok lo, u))))
+abbrev pub low_in : Reading → Outcome Numeral
+low_in r = then (starts (codes "lo") r) (λ _ s. then (number_in s) (λ lo t. then (expects (codes ")") t) (λ _ u. Ok (lo, u))))
 
 -- the upper bound, if the two make a pair of bounds
-abbrev pub high_in : Numeral → Reading → Result (ℤ × ℤ) LineFault × Reading
-high_in lo r = then (starts (codes "hi") r) (λ _ s. then (number_in s) (λ hi t. then (in_line (pair_of lo hi), t) (λ b u.
-    then (expects (codes ")") u) (λ _ v. (Ok b, v)))))
+abbrev pub high_in : Numeral → Reading → Outcome (ℤ × ℤ)
+high_in lo r = then (starts (codes "hi") r) (λ _ s. then (number_in s) (λ hi t. then (ended (in_line (pair_of lo hi)) t) (λ b u.
+    then (expects (codes ")") u) (λ _ v. Ok (b, v)))))
 
-abbrev pub bounds_in : Reading → Result (ℤ × ℤ) LineFault × Reading
+abbrev pub bounds_in : Reading → Outcome (ℤ × ℤ)
 bounds_in r = then (low_in r) (λ lo s. then (expects (codes " ") s) (λ _ t. high_in lo t))

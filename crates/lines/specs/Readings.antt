@@ -25,10 +25,15 @@ past s r = record { spot = spot_after s r.spot; rest = drop (length (bytes_of s)
 abbrev pub fault_at : Reading → Cause → LineFault
 fault_at r c = record { spot = r.spot; cause = c }
 
--- one reading after another; the first fault ends them
-abbrev pub after : {A B E : Type 0} → Result A E → Reading → (A → Reading → Result B E × Reading) → Result B E × Reading
-after (Ok x) r f = f x r
-after (Err e) r f = (Err e, r)
+-- what is read or why it is not, and where reading is then
+abbrev pub Outcome : Type 0 → Type 0
+Outcome A = Result (A × Reading) (LineFault × Reading)
 
-abbrev pub then : {A B E : Type 0} → Result A E × Reading → (A → Reading → Result B E × Reading) → Result B E × Reading
-then m f = after m.0 m.1 f
+abbrev pub ended : {A : Type 0} → Result A LineFault → Reading → Outcome A
+ended (Ok x) r = Ok (x, r)
+ended (Err e) r = Err (e, r)
+
+-- one reading after another; the first fault ends them
+abbrev pub then : {A B : Type 0} → Outcome A → (A → Reading → Outcome B) → Outcome B
+then (Ok m) f = f m.0 m.1
+then (Err e) f = Err e

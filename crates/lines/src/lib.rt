@@ -6,7 +6,7 @@
 
 ghost use Rattle.std.specs.Prelude.{◌≡◌, ℕ, ◌==◌, ◌≤◌, length, ◌≤ℤ◌, IfOk};
 ghost use Rattle.tokens.specs.Tokens.{Within, shape};
-ghost use Rattle.lines.specs.Readings.{start_of, past, fault_at};
+ghost use Rattle.lines.specs.Readings.{start_of, past, fault_at, ended};
 ghost use Rattle.lines.specs.Lines.{shown_token, token_at, expects, starts, number_in, within_in, count_in, finishes, shown_pair, pair_of, low_in, high_in, bounds_in};
 
 use networks::Bounds;
@@ -14,7 +14,7 @@ use std::marker::Model;
 use tokens::{BoundsFault, Cause, LineFault, Spot, Token, front, value};
 
 // Where the reading of a text is: the byte that is next, and the text from it on.
-#[derive(Clone, Drop)]
+#[derive(Drop)]
 pub struct Cursor<'a> {
     spot: Spot,
     rest: &'a [u8],
@@ -47,6 +47,16 @@ impl<'a> Cursor<'a> {
         Cursor {
             spot: Spot { line: 1, place: 1 },
             rest: text,
+        }
+    }
+
+    // The same place of the same text, to read from it once more.
+    pub fn again(&self) -> Cursor<'a>
+        ensures { result ≡ self.now }
+    {
+        Cursor {
+            spot: self.spot,
+            rest: self.rest,
         }
     }
 
@@ -104,7 +114,7 @@ impl<'a> Cursor<'a> {
 
     // Steps over the token with these bytes.
     pub fn expect(&mut self, due: &[u8]) -> Result<(), LineFault>
-        ensures { (result, self.new) ≡ expects due.now self.old }
+        ensures { ended result self.new ≡ expects due.now self.old }
     {
         let token = self.token()?;
         if token.bytes() != due {
@@ -116,7 +126,7 @@ impl<'a> Cursor<'a> {
 
     // Steps over a bracket, a name and a space.
     pub fn start(&mut self, name: &[u8]) -> Result<(), LineFault>
-        ensures { (result, self.new) ≡ starts name.now self.old }
+        ensures { ended result self.new ≡ starts name.now self.old }
     {
         self.expect(b"(")?;
         self.expect(name)?;
@@ -125,7 +135,7 @@ impl<'a> Cursor<'a> {
 
     // The number that is next.
     pub fn number(&mut self) -> Result<Numeral, LineFault>
-        ensures { (result, self.new) ≡ number_in self.old }
+        ensures { ended result self.new ≡ number_in self.old }
     {
         let token = self.token()?;
         let Token::Number(bytes) = token else {
@@ -142,7 +152,7 @@ impl<'a> Cursor<'a> {
     // What the number that is next says, if it is from the least to the most.
     pub fn within(&mut self, least: i32, most: i32) -> Result<i32, LineFault>
         ensures within { IfOk result (λ n. (least ≤ℤ n) × (n ≤ℤ most)) }
-        ensures is { (result, self.new) ≡ within_in least most self.old }
+        ensures is { ended result self.new ≡ within_in least most self.old }
     {
         let Numeral { value, spot } = self.number()?;
         if value < least || value > most {
@@ -158,7 +168,7 @@ impl<'a> Cursor<'a> {
     pub fn count(&mut self, name: &[u8], least: usize, most: usize) -> Result<usize, LineFault>
         requires { (least ≤ most) × (most ≤ 1024) }
         ensures within { IfOk result (λ k. (least ≤ k) × (k ≤ most)) }
-        ensures is { (result, self.new) ≡ count_in name.now least most self.old }
+        ensures is { ended result self.new ≡ count_in name.now least most self.old }
     {
         self.start(name)?;
         let number = self.within(least as i32, most as i32)?;
@@ -168,7 +178,7 @@ impl<'a> Cursor<'a> {
 
     // Steps over the last bracket and the line feed.
     pub fn finish(&mut self) -> Result<(), LineFault>
-        ensures { (result, self.new) ≡ finishes self.old }
+        ensures { ended result self.new ≡ finishes self.old }
     {
         self.expect(b")")?;
         self.expect(b"\n")
@@ -176,7 +186,7 @@ impl<'a> Cursor<'a> {
 
     // The lower bound, in brackets after its name.
     fn low(&mut self) -> Result<Numeral, LineFault>
-        ensures { (result, self.new) ≡ low_in self.old }
+        ensures { ended result self.new ≡ low_in self.old }
     {
         self.start(b"lo")?;
         let lo = self.number()?;
@@ -186,7 +196,7 @@ impl<'a> Cursor<'a> {
 
     // The upper bound, in brackets after its name, if the two make a pair of bounds.
     fn high(&mut self, lo: Numeral) -> Result<Bounds, LineFault>
-        ensures { (shown_pair result, self.new) ≡ high_in lo self.old }
+        ensures { ended (shown_pair result) self.new ≡ high_in lo self.old }
     {
         self.start(b"hi")?;
         let hi = self.number()?;
@@ -197,7 +207,7 @@ impl<'a> Cursor<'a> {
 
     // The lower and the upper bound.
     pub fn bounds(&mut self) -> Result<Bounds, LineFault>
-        ensures { (shown_pair result, self.new) ≡ bounds_in self.old }
+        ensures { ended (shown_pair result) self.new ≡ bounds_in self.old }
     {
         let lo = self.low()?;
         self.expect(b" ")?;
