@@ -43,8 +43,7 @@ impl FileFault {
     {
         match self {
             FileFault::Line(fault) => fault.spot.place,
-            FileFault::After(_) => 1,
-            FileFault::Long => 1,
+            FileFault::After(_) | FileFault::Long => 1,
         }
     }
 
@@ -71,12 +70,7 @@ impl FileFault {
         ensures { result ≡ stop_in self }
     {
         match self {
-            FileFault::Line(
-                LineFault {
-                    spot: _,
-                    cause: Cause::Bounds(stop),
-                },
-            ) => Some(stop),
+            FileFault::Line(LineFault { cause: Cause::Bounds(stop), .. }) => Some(stop),
             _ => None,
         }
     }
@@ -94,5 +88,13 @@ impl From<FileFault> for ReadStop {
 
     fn from(e: FileFault) -> ReadStop {
         ReadStop::Fault(e)
+    }
+}
+
+impl From<LineFault> for ReadStop {
+    ghost from_gives = { λ e r. r ≡ Fault (Line e) };
+
+    fn from(e: LineFault) -> ReadStop {
+        ReadStop::Fault(FileFault::Line(e))
     }
 }

@@ -4,7 +4,7 @@
 // the fault; where it stops, and what it answers, is its rule (specs), also after a fault.
 #![tactic(auto)]
 
-ghost use Rattle.std.specs.Prelude.{◌≡◌, ℕ, ◌==◌, ◌≤◌, length, ◌≤ℤ◌, IfOk};
+ghost use Rattle.std.specs.Prelude.{◌≡◌, ℕ, ◌≤◌, length, ◌≤ℤ◌, IfOk};
 ghost use Rattle.tokens.specs.Tokens.{Within, shape};
 ghost use Rattle.lines.specs.Readings.{start_of, past, fault_at, ended};
 ghost use Rattle.lines.specs.Lines.{shown_token, token_at, expects, starts, number_in, within_in, count_in, finishes, shown_pair, pair_of, low_in, high_in, bounds_in};
@@ -67,11 +67,11 @@ impl<'a> Cursor<'a> {
         self.spot.line
     }
 
-    // Whether no byte is left.
-    pub fn is_done(&self) -> bool
-        ensures { result ≡ (length self.now.rest == 0) }
+    // How many bytes are left.
+    pub fn left(&self) -> usize
+        ensures { result ≡ length self.now.rest }
     {
-        self.rest.is_empty()
+        self.rest.len()
     }
 
     fn fault(&self, cause: Cause) -> LineFault
