@@ -1,5 +1,5 @@
 -- The line, the place and the cause that each fault of a file is told by.
-use Rattle.std.specs.Prelude.{ℕ, Some, None, Option}
+use Rattle.std.specs.Prelude.{ℕ, List, ◌++◌, decimal, codes, Some, None, Option}
 use Rattle.networks.specs.declared.stops.Stop.{Stop}
 use Rattle.tokens.specs.declared.spots.Cause.{Cause}
 use Rattle.tokens.specs.declared.spots.Cause.TheVariants.{Byte, Number, NotDue, End, Range, Bounds}
@@ -20,6 +20,10 @@ abbrev pub told : FileFault → ℕ × ℕ × ℕ
 told (Line f) = (f.spot.line, f.spot.place, cause_number f.cause)
 told (After line) = (line, 1, 5)
 told Long = (1, 1, 8)
+
+-- as it is printed
+abbrev pub fault_text : FileFault → List ℕ
+fault_text e = decimal (told e).0 ++ codes " " ++ decimal (told e).1 ++ codes " " ++ decimal (told e).2
 
 -- the stop that a cause carries
 abbrev pub stop_of : Cause → Option Stop

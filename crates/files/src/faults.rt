@@ -1,11 +1,12 @@
 // Faults of a network file, and why a table is not read.
 
-ghost use Rattle.std.specs.Prelude.{◌≡◌, ℕ};
-ghost use Rattle.files.specs.Faults.{told, stop_in};
+ghost use Rattle.std.specs.Prelude.{◌≡◌, ℕ, Some};
+ghost use Rattle.files.specs.Faults.{told, fault_text, stop_in};
 ghost use Rattle.files.specs.declared.faults.FileFault.TheVariants.{Line};
 ghost use Rattle.files.specs.declared.faults.ReadStop.TheVariants.{Fault};
 
 use networks::Stop;
+use std::fmt;
 use tokens::{Cause, LineFault};
 
 #[derive(Clone, Copy, Debug, PartialEq)]
@@ -73,6 +74,18 @@ impl FileFault {
             FileFault::Line(LineFault { cause: Cause::Bounds(stop), .. }) => Some(stop),
             _ => None,
         }
+    }
+}
+
+// A fault prints as its line, its place and the number of its cause.
+impl fmt::Display for FileFault {
+    ghost output = { λ e. Some (fault_text e) };
+
+    fn fmt<W: fmt::Write>(&self, f: &mut fmt::Formatter<W>) -> fmt::Result {
+        let line = self.line();
+        let place = self.place();
+        let cause = self.cause();
+        write!(f, "{line} {place} {cause}")
     }
 }
 
