@@ -2,7 +2,7 @@
 
 ghost use Rattle.std.specs.Prelude.{◌≡◌, ℕ, ◌≤◌};
 ghost use Rattle.lines.specs.Readings.{ended};
-ghost use Rattle.files.specs.Arcs.{tier_in, second_in, cost_in, ends_in, arc_in};
+ghost use Rattle.files.specs.Arcs.{tier_in, second_in, cost_in, arc_in};
 
 use crate::kinds::FileCost;
 use lines::Cursor;
@@ -40,24 +40,15 @@ fn read_cost<C: FileCost>(cursor: &mut Cursor) -> Result<C, LineFault>
     Ok(C::of_tiers(i64::from(first), i64::from(second)))
 }
 
-// Where the arc is from, and where to.
-fn read_ends(cursor: &mut Cursor, nodes: usize) -> Result<(usize, usize), LineFault>
-    requires { (1 ≤ nodes) × (nodes ≤ 256) }
-    ensures { ended result cursor.new ≡ ends_in nodes cursor.old }
-{
-    cursor.start(b"arc")?;
-    let from = cursor.count(b"from", 1, nodes)?;
-    cursor.expect(b" ")?;
-    let to = cursor.count(b"to", 1, nodes)?;
-    Ok((from, to))
-}
-
 // The row that the line says.
 pub fn read_arc<C: FileCost>(cursor: &mut Cursor, nodes: usize) -> Result<Row<C>, LineFault>
     requires { (1 ≤ nodes) × (nodes ≤ 256) }
     ensures { ended result cursor.new ≡ arc_in C.FileCost.numbers nodes cursor.old }
 {
-    let (from, to) = read_ends(cursor, nodes)?;
+    cursor.start(b"arc")?;
+    let from = cursor.count(b"from", 1, nodes)?;
+    cursor.expect(b" ")?;
+    let to = cursor.count(b"to", 1, nodes)?;
     cursor.expect(b" ")?;
     let bounds = cursor.bounds()?;
     cursor.expect(b" ")?;

@@ -71,7 +71,12 @@ impl FileFault {
         ensures { result ≡ stop_in self }
     {
         match self {
-            FileFault::Line(LineFault { cause: Cause::Bounds(stop), .. }) => Some(stop),
+            FileFault::Line(
+                LineFault {
+                    cause: Cause::Bounds(stop),
+                    ..
+                },
+            ) => Some(stop),
             _ => None,
         }
     }

@@ -80,7 +80,11 @@ fn check_body<C: FileCost>(mut cursor: Cursor, header: Header) -> Result<(), Fil
 }
 
 // Reads a line into each row.
-fn read_rows<C: FileCost>(cursor: &mut Cursor, nodes: usize, rows: &mut [Row<C>]) -> Result<(), LineFault>
+fn read_rows<C: FileCost>(
+    cursor: &mut Cursor,
+    nodes: usize,
+    rows: &mut [Row<C>],
+) -> Result<(), LineFault>
     requires { (1 ≤ nodes) × (nodes ≤ 256) }
     ensures { ended (shown_rows rows.new result) cursor.new ≡ rows_in C.FileCost.numbers nodes (length rows.old) cursor.old }
 {
