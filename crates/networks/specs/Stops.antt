@@ -1,5 +1,5 @@
 -- The number and the place that each stop is told by.
-use Rattle.std.specs.Prelude.{ℕ}
+use Rattle.std.specs.Prelude.{ℕ, List, ◌++◌, decimal, codes}
 use Rattle.networks.specs.declared.stops.Stop.{Stop}
 use Rattle.networks.specs.declared.stops.Stop.TheVariants.{Counts, Lengths, Ends, Cost, Flow, Imbalance, Bounds, Absent, Held, Fixed, Full, NotOut}
 
@@ -16,3 +16,7 @@ told (Held a) = (9, a)
 told (Fixed a) = (10, a)
 told Full = (11, 0)
 told (NotOut a) = (12, a)
+
+-- how a stop is printed: its number, a blank, and its place
+abbrev pub stop_text : Stop → List ℕ
+stop_text s = decimal (told s).0 ++ codes " " ++ decimal (told s).1

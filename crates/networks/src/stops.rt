@@ -1,7 +1,9 @@
 // Why a call refuses, with the number and the place that it is told by.
 
-ghost use Rattle.std.specs.Prelude.{◌≡◌, ℕ};
-ghost use Rattle.networks.specs.Stops.{told};
+ghost use Rattle.std.specs.Prelude.{◌≡◌, ℕ, Some};
+ghost use Rattle.networks.specs.Stops.{told, stop_text};
+
+use std::fmt;
 
 #[derive(Clone, Copy, Debug, PartialEq)]
 pub enum Stop {
@@ -60,5 +62,16 @@ impl Stop {
             Stop::Held(a) | Stop::Fixed(a) | Stop::NotOut(a) => a,
             Stop::Imbalance(n) | Stop::Absent(n) => n,
         }
+    }
+}
+
+// A stop prints as its number and its place.
+impl fmt::Display for Stop {
+    ghost output = { λ s. Some (stop_text s) };
+
+    fn fmt<W: fmt::Write>(&self, f: &mut fmt::Formatter<W>) -> fmt::Result {
+        let number = self.number();
+        let place = self.place();
+        write!(f, "{number} {place}")
     }
 }
