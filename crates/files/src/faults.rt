@@ -1,7 +1,7 @@
 // Faults of a network file, and why a table is not read.
 
 ghost use Rattle.std.specs.Prelude.{◌≡◌, ℕ, Some};
-ghost use Rattle.files.specs.Faults.{told, fault_text, stop_in};
+ghost use Rattle.files.specs.Faults.{told, fault_text, stop_in, refusal_text};
 ghost use Rattle.files.specs.declared.faults.FileFault.TheVariants.{Line};
 ghost use Rattle.files.specs.declared.faults.ReadStop.TheVariants.{Fault};
 
@@ -99,6 +99,18 @@ impl fmt::Display for FileFault {
 pub enum ReadStop {
     Fault(FileFault),
     Stop(Stop),
+}
+
+// A stop prints as its number and its place, a fault of the file as number 13.
+impl fmt::Display for ReadStop {
+    ghost output = { λ e. Some (refusal_text e) };
+
+    fn fmt<W: fmt::Write>(&self, f: &mut fmt::Formatter<W>) -> fmt::Result {
+        match self {
+            ReadStop::Fault(fault) => write!(f, "13 {fault}"),
+            ReadStop::Stop(stop) => write!(f, "{stop}"),
+        }
+    }
 }
 
 impl From<FileFault> for ReadStop {

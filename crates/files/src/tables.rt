@@ -17,7 +17,8 @@ pub const MOST_BYTES: usize = 65_536;
 
 const MOST_NODES: usize = 256;
 
-const MOST_ARCS: usize = 1024;
+// The most arcs of a network, and so the most rows of a file.
+pub const MOST_ARCS: usize = 1024;
 
 // The counts of the first line.
 #[derive(Clone, Copy, Debug, PartialEq)]
