@@ -1,10 +1,13 @@
 -- The line, the place and the cause that each fault of a file is told by.
-use Rattle.std.specs.Prelude.{ℕ, Some, None, Option}
+use Rattle.std.specs.Prelude.{ℕ, List, ◌++◌, decimal, codes, Some, None, Option}
 use Rattle.networks.specs.declared.stops.Stop.{Stop}
+use Rattle.networks.specs.Stops.{stop_text}
 use Rattle.tokens.specs.declared.spots.Cause.{Cause}
 use Rattle.tokens.specs.declared.spots.Cause.TheVariants.{Byte, Number, NotDue, End, Range, Bounds}
 use Rattle.files.specs.declared.faults.FileFault.{FileFault}
 use Rattle.files.specs.declared.faults.FileFault.TheVariants.{Line, After, Long}
+use Rattle.files.specs.declared.faults.ReadStop.{ReadStop}
+use Rattle.files.specs.declared.faults.ReadStop.TheVariants as read
 
 -- the numbers of the causes that stand in a line
 abbrev pub cause_number : Cause → ℕ
@@ -20,6 +23,14 @@ abbrev pub told : FileFault → ℕ × ℕ × ℕ
 told (Line f) = (f.spot.line, f.spot.place, cause_number f.cause)
 told (After line) = (line, 1, 5)
 told Long = (1, 1, 8)
+
+-- as it is printed
+abbrev pub fault_text : FileFault → List ℕ
+fault_text e = decimal (told e).0 ++ codes " " ++ decimal (told e).1 ++ codes " " ++ decimal (told e).2
+
+abbrev pub refusal_text : ReadStop → List ℕ
+refusal_text (read.Fault e) = codes "13 " ++ fault_text e
+refusal_text (read.Stop s) = stop_text s
 
 -- the stop that a cause carries
 abbrev pub stop_of : Cause → Option Stop

@@ -1,34 +1,28 @@
 -- A network file: its first line, and the lines of its arcs.
-use Rattle.std.specs.Prelude.{ℕ, zero, suc, ◌+◌, ◌≤◌, cond, List, [], ◌∷◌, ◌++◌, length, drop, Ok, Err, codes, Result, ◌==◌, nat_le}
-use Rattle.std.specs.Borrow.{Bor}
+use Rattle.std.specs.Prelude.{ℕ, zero, suc, ◌≤◌, cond, List, [], ◌∷◌, ◌++◌, length, drop, Ok, Err, codes, Result, ◌==◌, nat_le}
 use Rattle.networks.specs.Limits.{most_nodes, most_arcs}
 use Rattle.networks.specs.declared.stops.Stop.TheVariants.{Lengths}
 use Rattle.makes.specs.declared.table.Row.{Row}
-use Rattle.tokens.specs.declared.spots.LineFault.{LineFault}
 use Rattle.files.specs.declared.faults.FileFault.{FileFault}
 use Rattle.files.specs.declared.faults.FileFault.TheVariants.{Line, After, Long}
 use Rattle.files.specs.declared.faults.ReadStop.{ReadStop}
 use Rattle.files.specs.declared.faults.ReadStop.TheVariants.{Fault, Stop}
-use Rattle.lines.specs.declared.Count.{Count}
 use Rattle.files.specs.declared.tables.Header.{Header}
-use Rattle.files.specs.declared.tables.LineHeader.{LineHeader}
 use Rattle.files.specs.Kinds.{Tiers}
 use Rattle.files.specs.Arcs.{arc_in}
-use Rattle.lines.specs.Lines.{then, expects, starts, finishes, count_in}
+use Rattle.lines.specs.Readings.{Reading, Outcome, start_of, then}
+use Rattle.lines.specs.Lines.{expects, starts, finishes, count_in}
 
 -- the most bytes of a file that a program takes
 abbrev pub most_bytes : ℕ
 most_bytes = 65536
 
 -- the counts of the first line, with tiers from the least to the most
-abbrev pub headed : ℕ → List ℕ → Count → Count → Count → Result LineHeader LineFault
-headed n xs nodes arcs tiers = then (finishes n xs tiers.next) (λ j.
-    Ok (record { header = record { nodes = nodes.value; arcs = arcs.value; tiers = tiers.value }; next = j }))
-
-abbrev pub header_in : ℕ → List ℕ → ℕ → ℕ → Result LineHeader LineFault
-header_in n xs least most = then (starts n xs (codes "net") 0) (λ i. then (count_in n xs (codes "nodes") 1 most_nodes i) (λ nodes.
-    then (expects n xs (codes " ") nodes.next) (λ j. then (count_in n xs (codes "arcs") 0 most_arcs j) (λ arcs.
-    then (expects n xs (codes " ") arcs.next) (λ k. then (count_in n xs (codes "tiers") least most k) (headed n xs nodes arcs))))))
+abbrev pub header_in : ℕ → ℕ → Reading → Outcome Header
+header_in least most r = then (starts (codes "net") r) (λ _ s. then (count_in (codes "nodes") 1 most_nodes s) (λ nodes u.
+    then (expects (codes " ") u) (λ _ v. then (count_in (codes "arcs") 0 most_arcs v) (λ arcs w.
+    then (expects (codes " ") w) (λ _ x. then (count_in (codes "tiers") least most x) (λ tiers y.
+    then (finishes y) (λ _ z. Ok (record { nodes = nodes; arcs = arcs; tiers = tiers }, z))))))))
 
 -- the counts are in their ranges
 pub record Fit (h : Header) : Type 0 where
@@ -39,57 +33,56 @@ pub record Fit (h : Header) : Type 0 where
   pub few_tiers : h.tiers ≤ 2
 
 -- a line fault is a fault of the file
-abbrev pub in_file : {A : Type 0} → Result A LineFault → Result A FileFault
-in_file (Ok x) = Ok x
-in_file (Err e) = Err (Line e)
+abbrev pub in_file : {A : Type 0} → Outcome A → Result A FileFault
+in_file (Ok m) = Ok m.0
+in_file (Err e) = Err (Line e.0)
 
 -- the counts of a file, with tiers 1 or 2; too many bytes are told first
 abbrev pub counts_of : List ℕ → Result Header FileFault
-counts_of xs = cond (nat_le (length xs) most_bytes) (then (in_file (header_in 1 xs 1 2)) (λ h. Ok h.header)) (Err Long)
+counts_of xs = cond (nat_le (length xs) most_bytes) (in_file (header_in 1 2 (start_of xs))) (Err Long)
 
--- the rows of so many lines from line n on, and the text after them
-abbrev pub rows_in : {C : Type 0} → Tiers C → ℕ → ℕ → ℕ → List ℕ → Result (List (Row C) × List ℕ) FileFault
-rows_in t nodes n zero xs = Ok ([], xs)
-rows_in t nodes n (suc k) xs = then (in_file (arc_in t n xs nodes)) (λ r. then (rows_in t nodes (suc n) k (drop r.next xs)) (λ m. Ok (r.row ∷ m.0, m.1)))
-
--- the text after the lines
-abbrev pub text_after : {C : Type 0} → Result (List (Row C) × List ℕ) FileFault → Result (List ℕ) FileFault
-text_after r = then r (λ m. Ok m.1)
-
-abbrev pub rows_of : {C : Type 0} → Result (List (Row C) × List ℕ) FileFault → Result (List (Row C)) FileFault
-rows_of r = then r (λ m. Ok m.0)
-
-abbrev pub shown_text : Result (Bor (List ℕ)) FileFault → Result (List ℕ) FileFault
-shown_text (Ok rest) = Ok rest.now
-shown_text (Err e) = Err e
-
-abbrev pub shown_rows : {C : Type 0} → List (Row C) → Result (Unit {0}) FileFault → Result (List (Row C)) FileFault
-shown_rows rows (Ok x) = Ok rows
-shown_rows rows (Err e) = Err e
-
--- no byte stands after the last line
-abbrev pub kept : {A : Type 0} → ℕ → List ℕ → A → Result A FileFault
-kept n xs x = cond (length xs == 0) (Ok x) (Err (After n))
-
--- the rows of all lines after the first
-abbrev pub body_in : {C : Type 0} → Tiers C → Header → List ℕ → Result (List (Row C)) FileFault
-body_in t h xs = then (rows_in t h.nodes 2 h.arcs xs) (λ m. kept (h.arcs + 2) m.1 m.0)
+-- the rows of so many lines
+abbrev pub rows_in : {C : Type 0} → Tiers C → ℕ → ℕ → Reading → Outcome (List (Row C))
+rows_in t nodes zero r = Ok ([], r)
+rows_in t nodes (suc k) r = then (arc_in t nodes r) (λ x s. then (rows_in t nodes k s) (λ xs u. Ok (x ∷ xs, u)))
 
 -- whether there is an answer
 abbrev pub granted : {A E : Type 0} → Result A E → Result (Unit {0}) E
 granted (Ok x) = Ok tt
 granted (Err e) = Err e
 
+-- the lines looked at, and no row read
+abbrev pub passed : {A : Type 0} → Outcome A → Outcome (Unit {0})
+passed m = then m (λ _ r. Ok (tt, r))
+
+abbrev pub shown_rows : {A B E : Type 0} → A → Result B E → Result A E
+shown_rows rows (Ok x) = Ok rows
+shown_rows rows (Err e) = Err e
+
+-- no byte stands after the last line
+abbrev pub kept : {A : Type 0} → Outcome A → Result A FileFault
+kept (Ok m) = cond (length m.1.rest == 0) (Ok m.0) (Err (After m.1.spot.line))
+kept (Err e) = Err (Line e.0)
+
+-- the rows of all lines after the first
+abbrev pub body_in : {C : Type 0} → Tiers C → Header → Reading → Result (List (Row C)) FileFault
+body_in t h r = kept (rows_in t h.nodes h.arcs r)
+
 abbrev pub in_read : {A : Type 0} → Result A FileFault → Result A ReadStop
 in_read (Ok x) = Ok x
 in_read (Err e) = Err (Fault e)
 
+abbrev pub with_header : {C : Type 0} → Header → Result (List (Row C)) ReadStop → Result (Header × List (Row C)) ReadStop
+with_header h (Ok rows) = Ok (h, rows)
+with_header h (Err e) = Err e
+
 -- the counts and the rows of a file, with room for so many rows
-abbrev pub roomed : {C : Type 0} → Tiers C → ℕ → List ℕ → LineHeader → Result (Header × List (Row C)) ReadStop
-roomed t room xs h = cond (nat_le h.header.arcs room) (then (in_read (body_in t h.header (drop h.next xs))) (λ rows. Ok (h.header, rows))) (Err (Stop Lengths))
+abbrev pub roomed : {C : Type 0} → Tiers C → ℕ → Outcome Header → Result (Header × List (Row C)) ReadStop
+roomed t room (Ok m) = cond (nat_le m.0.arcs room) (with_header m.0 (in_read (body_in t m.0 m.1))) (Err (Stop Lengths))
+roomed t room (Err e) = Err (Fault (Line e.0))
 
 abbrev pub table_in : {C : Type 0} → Tiers C → ℕ → List ℕ → Result (Header × List (Row C)) ReadStop
-table_in t room xs = then (in_read (in_file (header_in 1 xs t.count t.count))) (roomed t room xs)
+table_in t room xs = roomed t room (header_in t.count t.count (start_of xs))
 
 abbrev pub header_of : {C : Type 0} → Result (Header × List (Row C)) ReadStop → Result Header ReadStop
 header_of (Ok x) = Ok x.0

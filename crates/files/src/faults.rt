@@ -1,11 +1,12 @@
 // Faults of a network file, and why a table is not read.
 
-ghost use Rattle.std.specs.Prelude.{◌≡◌, ℕ};
-ghost use Rattle.files.specs.Faults.{told, stop_in};
+ghost use Rattle.std.specs.Prelude.{◌≡◌, ℕ, Some};
+ghost use Rattle.files.specs.Faults.{told, fault_text, stop_in, refusal_text};
 ghost use Rattle.files.specs.declared.faults.FileFault.TheVariants.{Line};
 ghost use Rattle.files.specs.declared.faults.ReadStop.TheVariants.{Fault};
 
 use networks::Stop;
+use std::fmt;
 use tokens::{Cause, LineFault};
 
 #[derive(Clone, Copy, Debug, PartialEq)]
@@ -43,8 +44,7 @@ impl FileFault {
     {
         match self {
             FileFault::Line(fault) => fault.spot.place,
-            FileFault::After(_) => 1,
-            FileFault::Long => 1,
+            FileFault::After(_) | FileFault::Long => 1,
         }
     }
 
@@ -73,12 +73,24 @@ impl FileFault {
         match self {
             FileFault::Line(
                 LineFault {
-                    spot: _,
                     cause: Cause::Bounds(stop),
+                    ..
                 },
             ) => Some(stop),
             _ => None,
         }
+    }
+}
+
+// A fault prints as its line, its place and the number of its cause.
+impl fmt::Display for FileFault {
+    ghost output = { λ e. Some (fault_text e) };
+
+    fn fmt<W: fmt::Write>(&self, f: &mut fmt::Formatter<W>) -> fmt::Result {
+        let line = self.line();
+        let place = self.place();
+        let cause = self.cause();
+        write!(f, "{line} {place} {cause}")
     }
 }
 
@@ -89,10 +101,30 @@ pub enum ReadStop {
     Stop(Stop),
 }
 
+// A stop prints as its number and its place, a fault of the file as number 13.
+impl fmt::Display for ReadStop {
+    ghost output = { λ e. Some (refusal_text e) };
+
+    fn fmt<W: fmt::Write>(&self, f: &mut fmt::Formatter<W>) -> fmt::Result {
+        match self {
+            ReadStop::Fault(fault) => write!(f, "13 {fault}"),
+            ReadStop::Stop(stop) => write!(f, "{stop}"),
+        }
+    }
+}
+
 impl From<FileFault> for ReadStop {
     ghost from_gives = { λ e r. r ≡ Fault e };
 
     fn from(e: FileFault) -> ReadStop {
         ReadStop::Fault(e)
+    }
+}
+
+impl From<LineFault> for ReadStop {
+    ghost from_gives = { λ e r. r ≡ Fault (Line e) };
+
+    fn from(e: LineFault) -> ReadStop {
+        ReadStop::Fault(FileFault::Line(e))
     }
 }

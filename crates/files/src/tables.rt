@@ -1,12 +1,13 @@
 // Reading a network file: the counts of its first line, and its arcs into lent rows.
 
-ghost use Rattle.std.specs.Prelude.{◌≡◌, ℕ, ◌≤◌, length, take, drop, IfOk};
-ghost use Rattle.files.specs.Tables.{Fit, header_in, in_file, counts_of, rows_in, rows_of, text_after, shown_text, shown_rows, body_in, granted, table_in, header_of, rows_after};
+ghost use Rattle.std.specs.Prelude.{◌≡◌, ℕ, ◌≤◌, length, IfOk};
+ghost use Rattle.lines.specs.Readings.{ended};
+ghost use Rattle.files.specs.Tables.{Fit, header_in, in_file, counts_of, rows_in, passed, shown_rows, body_in, granted, table_in, header_of, rows_after};
 
 use crate::arcs::read_arc;
 use crate::faults::{FileFault, ReadStop};
 use crate::kinds::FileCost;
-use lines::Line;
+use lines::Cursor;
 use makes::Row;
 use networks::Stop;
 use tokens::LineFault;
@@ -16,7 +17,8 @@ pub const MOST_BYTES: usize = 65_536;
 
 const MOST_NODES: usize = 256;
 
-const MOST_ARCS: usize = 1024;
+// The most arcs of a network, and so the most rows of a file.
+pub const MOST_ARCS: usize = 1024;
 
 // The counts of the first line.
 #[derive(Clone, Copy, Debug, PartialEq)]
@@ -27,43 +29,20 @@ pub struct Header {
     pub tiers: usize,
 }
 
-// The counts, and how many bytes the line has.
-#[derive(Clone, Copy)]
-pub struct LineHeader {
-    pub header: Header,
-    pub next: usize,
-}
-
-// The first line; the tiers are from the least to the most.
-fn header_line(line: Line, least: usize, most: usize) -> Result<LineHeader, LineFault>
+// The counts of the first line; the tiers are from the least to the most.
+fn header_line(cursor: &mut Cursor, least: usize, most: usize) -> Result<Header, LineFault>
     requires { (1 ≤ least) × ((least ≤ most) × (most ≤ 2)) }
-    ensures within { IfOk result (λ x. (x.next ≤ length line.entry.text.now) × Fit x.header) }
-    ensures is { result ≡ header_in line.entry.number line.entry.text.now least most }
+    ensures fit { IfOk result Fit }
+    ensures is { ended result cursor.new ≡ header_in least most cursor.old }
 {
-    let at = line.start(0, b"net")?;
-    let nodes = line.count(at, b"nodes", 1, MOST_NODES)?;
-    let at = line.expect(nodes.next, b" ")?;
-    let arcs = line.count(at, b"arcs", 0, MOST_ARCS)?;
-    let at = line.expect(arcs.next, b" ")?;
-    let tiers = line.count(at, b"tiers", least, most)?;
-    let next = line.finish(tiers.next)?;
-    Ok(LineHeader {
-        header: Header {
-            nodes: nodes.value,
-            arcs: arcs.value,
-            tiers: tiers.value,
-        },
-        next,
-    })
-}
-
-fn first_line(text: &[u8], least: usize, most: usize) -> Result<LineHeader, FileFault>
-    requires { (1 ≤ least) × ((least ≤ most) × (most ≤ 2)) }
-    ensures within { IfOk result (λ x. (x.next ≤ length text.now) × Fit x.header) }
-    ensures is { result ≡ in_file (header_in 1 text.now least most) }
-{
-    let first = header_line(Line { number: 1, text }, least, most)?;
-    Ok(first)
+    cursor.start(b"net")?;
+    let nodes = cursor.count(b"nodes", 1, MOST_NODES)?;
+    cursor.expect(b" ")?;
+    let arcs = cursor.count(b"arcs", 0, MOST_ARCS)?;
+    cursor.expect(b" ")?;
+    let tiers = cursor.count(b"tiers", least, most)?;
+    cursor.finish()?;
+    Ok(Header { nodes, arcs, tiers })
 }
 
 // The counts of a file's first line, with tiers 1 or 2; a file with too many bytes is refused first.
@@ -74,60 +53,44 @@ pub fn read_header(text: &[u8]) -> Result<Header, FileFault>
     if text.len() > MOST_BYTES {
         return Err(FileFault::Long);
     }
-    let first = first_line(text, 1, 2)?;
-    Ok(first.header)
+    let header = header_line(&mut Cursor::new(text), 1, 2)?;
+    Ok(header)
 }
 
-// Looks at a line for each arc, and gives the text after them.
-fn check_rows<'a, C: FileCost>(text: &'a [u8], header: Header) -> Result<&'a [u8], FileFault>
+// Looks at a line for each arc.
+fn check_rows<C: FileCost>(cursor: &mut Cursor, header: Header) -> Result<(), LineFault>
     requires { Fit header }
-    ensures { shown_text result ≡ text_after (rows_in C.FileCost.numbers header.nodes 2 header.arcs text.now) }
+    ensures { ended result cursor.new ≡ passed (rows_in C.FileCost.numbers header.nodes header.arcs cursor.old) }
 {
-    let mut rest = text;
-    for i in 0..header.arcs {
-        let read = read_arc::<C>(
-            Line {
-                number: i + 2,
-                text: rest,
-            },
-            header.nodes,
-        )?;
-        let (_, after) = rest.split_at(read.next);
-        rest = after;
-    }
-    Ok(rest)
-}
-
-// Looks at all lines after the first; no byte may stand after the last.
-fn check_body<C: FileCost>(text: &[u8], header: Header) -> Result<(), FileFault>
-    requires { Fit header }
-    ensures { result ≡ granted (body_in C.FileCost.numbers header text.now) }
-{
-    let rest = check_rows::<C>(text, header)?;
-    if rest.len() > 0 {
-        return Err(FileFault::After(header.arcs + 2));
+    for _ in 0..header.arcs {
+        read_arc::<C>(cursor, header.nodes)?;
     }
     Ok(())
 }
 
-// Reads a line into each of the first rows.
-fn read_rows<C: FileCost>(text: &[u8], header: Header, rows: &mut [Row<C>]) -> Result<(), FileFault>
-    requires { (Fit header) × (header.arcs ≤ length rows.old) }
-    ensures is { shown_rows (take header.arcs rows.new) result ≡ rows_of (rows_in C.FileCost.numbers header.nodes 2 header.arcs text.now) }
-    ensures past { drop header.arcs rows.new ≡ drop header.arcs rows.old }
+// Looks at all lines after the first; no byte may stand after the last.
+fn check_body<C: FileCost>(mut cursor: Cursor, header: Header) -> Result<(), FileFault>
+    requires { Fit header }
+    ensures { result ≡ granted (body_in C.FileCost.numbers header cursor.entry) }
 {
-    let mut rest = text;
-    for i in 0..header.arcs {
-        let read = read_arc(
-            Line {
-                number: i + 2,
-                text: rest,
-            },
-            header.nodes,
-        )?;
-        rows[i] = read.row;
-        let (_, after) = rest.split_at(read.next);
-        rest = after;
+    check_rows::<C>(&mut cursor, header)?;
+    if cursor.left() > 0 {
+        return Err(FileFault::After(cursor.line()));
+    }
+    Ok(())
+}
+
+// Reads a line into each row.
+fn read_rows<C: FileCost>(
+    cursor: &mut Cursor,
+    nodes: usize,
+    rows: &mut [Row<C>],
+) -> Result<(), LineFault>
+    requires { (1 ≤ nodes) × (nodes ≤ 256) }
+    ensures { ended (shown_rows rows.new result) cursor.new ≡ rows_in C.FileCost.numbers nodes (length rows.old) cursor.old }
+{
+    for row in rows.iter_mut() {
+        *row = read_arc(cursor, nodes)?;
     }
     Ok(())
 }
@@ -140,13 +103,12 @@ pub fn read_table<C: FileCost>(text: &[u8], rows: &mut [Row<C>]) -> Result<Heade
     ensures leaves { rows.new ≡ rows_after rows.old (table_in C.FileCost.numbers (length rows.old) text.now) }
 {
     let tiers = C::tiers();
-    let first = first_line(text, tiers, tiers)?;
-    let header = first.header;
+    let mut cursor = Cursor::new(text);
+    let header = header_line(&mut cursor, tiers, tiers)?;
     if header.arcs > rows.len() {
         return Err(ReadStop::Stop(Stop::Lengths));
     }
-    let (_, lines) = text.split_at(first.next);
-    check_body::<C>(lines, header)?;
-    read_rows(lines, header, rows)?;
+    check_body::<C>(cursor.again(), header)?;
+    read_rows(&mut cursor, header.nodes, &mut rows[..header.arcs])?;
     Ok(header)
 }

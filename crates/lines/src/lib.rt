@@ -1,238 +1,227 @@
-// A line of a network file, read token by token.
+// The lines of a network file, read token by token.
 //
-// `Line` is a line's number and the text from its first byte on. Each reading starts after a count of its
-// bytes and ends after another, or tells the fault; each equals its rule (specs). Places are worked out in
-// `spot` alone.
+// A `Cursor` stands at a byte of a text. Each reading steps on past what it reads and answers it, or tells
+// the fault; where it stops, and what it answers, is its rule (specs), also after a fault.
 #![tactic(auto)]
 
-ghost use Rattle.std.specs.Prelude.{◌≡◌, ℕ, ◌-◌, ◌≤◌, length, ◌≤ℤ◌, IfOk};
-ghost use Rattle.std.specs.Str.{bytes_eq};
-ghost use Rattle.tokens.specs.Tokens.{Within};
-ghost use Rattle.lines.specs.Lines.{spot_at, fault_at, shown_token, token_at, expects, starts, number_in, within_in, count_in, finishes, shown_pair, pair_of, low_in, high_in, bounds_in};
+ghost use Rattle.std.specs.Prelude.{◌≡◌, ℕ, ◌≤◌, length, ◌≤ℤ◌, IfOk};
+ghost use Rattle.tokens.specs.Tokens.{Within, shape};
+ghost use Rattle.lines.specs.Readings.{start_of, past, fault_at, ended};
+ghost use Rattle.lines.specs.Lines.{shown_token, token_at, expects, starts, number_in, within_in, count_in, finishes, shown_pair, pair_of, low_in, high_in, bounds_in};
 
 use networks::Bounds;
+use std::marker::Model;
 use tokens::{BoundsFault, Cause, LineFault, Spot, Token, front, value};
 
-// A line: its number, and the text from its first byte on.
-#[derive(Clone, Copy)]
-pub struct Line<'a> {
-    pub number: usize,
-    pub text: &'a [u8],
+// Where the reading of a text is: the byte that is next, and the text from it on.
+#[derive(Drop)]
+pub struct Cursor<'a> {
+    spot: Spot,
+    rest: &'a [u8],
 }
 
-// A number of a line: what it says, where it stands, and how many bytes of the line end with it.
+impl<'a> Model for Cursor<'a> {
+    ghost use Rattle.std.specs.Prelude.{ℕ, ◌+◌, ◌^◌, ◌<◌, ◌≤◌, length};
+    ghost use Rattle.lines.specs.Readings.{Reading};
+
+    ghost Value = { Reading };
+
+    ghost view = { λ c. record { spot = c.spot; rest = c.rest.now } };
+
+    // Lines and places cannot outgrow their numbers.
+    ghost invariant = { λ c. (1 ≤ c.spot.place) × (c.spot.line + c.spot.place + length c.rest.now < 2 ^ 64) };
+}
+
+// A number of a line: what it says, and where it stands.
 #[derive(Clone, Copy)]
 pub struct Numeral {
     pub value: i32,
     pub spot: Spot,
-    pub next: usize,
 }
 
-// A count of a line, and how many bytes of the line end with it.
-#[derive(Clone, Copy)]
-pub struct Count {
-    pub value: usize,
-    pub next: usize,
-}
-
-// The bounds of a line, and how many bytes of the line end with them.
-#[derive(Clone, Copy)]
-pub struct Span {
-    pub lo: i32,
-    pub hi: i32,
-    pub next: usize,
-}
-
-impl<'a> Line<'a> {
-    // The byte with this many before it in the line.
-    fn spot(self, at: usize) -> Spot
-        requires { at ≤ length self.text.now }
-        ensures { result ≡ spot_at self.entry.number at }
+impl<'a> Cursor<'a> {
+    // The first byte of a text.
+    pub fn new(text: &'a [u8]) -> Cursor<'a>
+        ensures { result ≡ start_of text.now }
     {
-        Spot {
-            line: self.number,
-            place: at + 1,
+        Cursor {
+            spot: Spot { line: 1, place: 1 },
+            rest: text,
         }
     }
 
-    fn fault(self, at: usize, cause: Cause) -> LineFault
-        requires { at ≤ length self.text.now }
-        ensures { result ≡ fault_at self.entry.number at cause }
+    // The same place of the same text, to read from it once more.
+    pub fn again(&self) -> Cursor<'a>
+        ensures { result ≡ self.now }
+    {
+        Cursor {
+            spot: self.spot,
+            rest: self.rest,
+        }
+    }
+
+    // The line of the next byte.
+    pub fn line(&self) -> usize
+        ensures { result ≡ self.now.spot.line }
+    {
+        self.spot.line
+    }
+
+    // How many bytes are left.
+    pub fn left(&self) -> usize
+        ensures { result ≡ length self.now.rest }
+    {
+        self.rest.len()
+    }
+
+    fn fault(&self, cause: Cause) -> LineFault
+        ensures { result ≡ fault_at self.now cause }
     {
         LineFault {
-            spot: self.spot(at),
+            spot: self.spot,
             cause,
         }
     }
 
-    // The token with this many bytes before it in the line.
-    fn token(self, at: usize) -> Result<Token<'a>, LineFault>
-        requires { at ≤ length self.text.now }
-        ensures within { IfOk result (λ t. Within t (length self.entry.text.now - at)) }
-        ensures is { shown_token result ≡ token_at self.entry.number self.entry.text.now at }
+    // The token that is next.
+    fn token(&self) -> Result<Token<'a>, LineFault>
+        ensures within { IfOk result (λ t. Within t (length self.now.rest)) }
+        ensures is { shown_token result ≡ token_at self.now }
     {
-        let (_, rest) = self.text.split_at(at);
-        match front(rest) {
-            Ok(token) => Ok(token),
-            Err(cause) => Err(self.fault(at, cause)),
-        }
+        let spot = self.spot;
+        front(self.rest).map_err(|cause| LineFault { spot, cause })
+    }
+
+    // Steps over the token that is next; a line feed ends its line.
+    fn step(&mut self, token: Token)
+        requires { Within token (length self.old.rest) }
+        ensures { self.new ≡ past (shape token.entry) self.old }
+    {
+        let bytes = token.bytes().len();
+        self.rest = &self.rest[bytes..];
+        let Spot { line, place } = self.spot;
+        self.spot = match token {
+            Token::LineFeed => Spot {
+                line: line + 1,
+                place: 1,
+            },
+            _ => Spot {
+                line,
+                place: place + bytes,
+            },
+        };
     }
 
     // Steps over the token with these bytes.
-    pub fn expect(self, at: usize, due: &[u8]) -> Result<usize, LineFault>
-        requires { at ≤ length self.text.now }
-        ensures within { IfOk result (λ n. n ≤ length self.entry.text.now) }
-        ensures is { result ≡ expects self.entry.number self.entry.text.now due.now at }
+    pub fn expect(&mut self, due: &[u8]) -> Result<(), LineFault>
+        ensures { ended result self.new ≡ expects due.now self.old }
     {
-        let token = self.token(at)?;
-        let bytes = token.bytes();
-        if !same(bytes, due) {
-            return Err(self.fault(at, Cause::NotDue));
+        let token = self.token()?;
+        if token.bytes() != due {
+            return Err(self.fault(Cause::NotDue));
         }
-        Ok(at + bytes.len())
+        self.step(token);
+        Ok(())
     }
 
     // Steps over a bracket, a name and a space.
-    pub fn start(self, at: usize, name: &[u8]) -> Result<usize, LineFault>
-        requires { at ≤ length self.text.now }
-        ensures within { IfOk result (λ n. n ≤ length self.entry.text.now) }
-        ensures is { result ≡ starts self.entry.number self.entry.text.now name.now at }
+    pub fn start(&mut self, name: &[u8]) -> Result<(), LineFault>
+        ensures { ended result self.new ≡ starts name.now self.old }
     {
-        let at = self.expect(at, b"(")?;
-        let at = self.expect(at, name)?;
-        self.expect(at, b" ")
+        self.expect(b"(")?;
+        self.expect(name)?;
+        self.expect(b" ")
     }
 
-    // The number with this many bytes before it in the line.
-    pub fn number(self, at: usize) -> Result<Numeral, LineFault>
-        requires { at ≤ length self.text.now }
-        ensures within { IfOk result (λ n. n.next ≤ length self.entry.text.now) }
-        ensures is { result ≡ number_in self.entry.number self.entry.text.now at }
+    // The number that is next.
+    pub fn number(&mut self) -> Result<Numeral, LineFault>
+        ensures { ended result self.new ≡ number_in self.old }
     {
-        let token = self.token(at)?;
+        let token = self.token()?;
         let Token::Number(bytes) = token else {
-            return Err(self.fault(at, Cause::NotDue));
+            return Err(self.fault(Cause::NotDue));
         };
+        let spot = self.spot;
+        self.step(token);
         Ok(Numeral {
             value: value(bytes),
-            spot: self.spot(at),
-            next: at + bytes.len(),
+            spot,
         })
     }
 
-    // The number, if it is from the least to the most.
-    pub fn within(self, at: usize, least: i32, most: i32) -> Result<Numeral, LineFault>
-        requires { at ≤ length self.text.now }
-        ensures within { IfOk result (λ n. (n.next ≤ length self.entry.text.now) × (least ≤ℤ n.value) × (n.value ≤ℤ most)) }
-        ensures is { result ≡ within_in self.entry.number self.entry.text.now least most at }
+    // What the number that is next says, if it is from the least to the most.
+    pub fn within(&mut self, least: i32, most: i32) -> Result<i32, LineFault>
+        ensures within { IfOk result (λ n. (least ≤ℤ n) × (n ≤ℤ most)) }
+        ensures is { ended result self.new ≡ within_in least most self.old }
     {
-        let number = self.number(at)?;
-        if number.value < least {
+        let Numeral { value, spot } = self.number()?;
+        if value < least || value > most {
             return Err(LineFault {
-                spot: number.spot,
+                spot,
                 cause: Cause::Range,
             });
         }
-        if number.value > most {
-            return Err(LineFault {
-                spot: number.spot,
-                cause: Cause::Range,
-            });
-        }
-        Ok(number)
+        Ok(value)
     }
 
     // A count in brackets, after its name, if it is from the least to the most.
-    pub fn count(
-        self,
-        at: usize,
-        name: &[u8],
-        least: usize,
-        most: usize,
-    ) -> Result<Count, LineFault>
-        requires { (at ≤ length self.text.now) × ((least ≤ most) × (most ≤ 1024)) }
-        ensures within { IfOk result (λ k. (k.next ≤ length self.entry.text.now) × (least ≤ k.value) × (k.value ≤ most)) }
-        ensures is { result ≡ count_in self.entry.number self.entry.text.now name.now least most at }
+    pub fn count(&mut self, name: &[u8], least: usize, most: usize) -> Result<usize, LineFault>
+        requires { (least ≤ most) × (most ≤ 1024) }
+        ensures within { IfOk result (λ k. (least ≤ k) × (k ≤ most)) }
+        ensures is { ended result self.new ≡ count_in name.now least most self.old }
     {
-        let at = self.start(at, name)?;
-        let number = self.within(at, least as i32, most as i32)?;
-        let next = self.expect(number.next, b")")?;
-        Ok(Count {
-            value: number.value as usize,
-            next,
-        })
+        self.start(name)?;
+        let number = self.within(least as i32, most as i32)?;
+        self.expect(b")")?;
+        Ok(number as usize)
     }
 
     // Steps over the last bracket and the line feed.
-    pub fn finish(self, at: usize) -> Result<usize, LineFault>
-        requires { at ≤ length self.text.now }
-        ensures within { IfOk result (λ n. n ≤ length self.entry.text.now) }
-        ensures is { result ≡ finishes self.entry.number self.entry.text.now at }
+    pub fn finish(&mut self) -> Result<(), LineFault>
+        ensures { ended result self.new ≡ finishes self.old }
     {
-        let at = self.expect(at, b")")?;
-        self.expect(at, b"\n")
+        self.expect(b")")?;
+        self.expect(b"\n")
     }
 
     // The lower bound, in brackets after its name.
-    fn low(self, at: usize) -> Result<Numeral, LineFault>
-        requires { at ≤ length self.text.now }
-        ensures within { IfOk result (λ n. n.next ≤ length self.entry.text.now) }
-        ensures is { result ≡ low_in self.entry.number self.entry.text.now at }
+    fn low(&mut self) -> Result<Numeral, LineFault>
+        ensures { ended result self.new ≡ low_in self.old }
     {
-        let at = self.start(at, b"lo")?;
-        let lo = self.number(at)?;
-        let next = self.expect(lo.next, b")")?;
-        Ok(Numeral {
-            value: lo.value,
-            spot: lo.spot,
-            next,
-        })
+        self.start(b"lo")?;
+        let lo = self.number()?;
+        self.expect(b")")?;
+        Ok(lo)
     }
 
     // The upper bound, in brackets after its name, if the two make a pair of bounds.
-    fn high(self, at: usize, lo: Numeral) -> Result<Span, LineFault>
-        requires { at ≤ length self.text.now }
-        ensures within { IfOk result (λ s. s.next ≤ length self.entry.text.now) }
-        ensures is { result ≡ high_in self.entry.number self.entry.text.now lo at }
+    fn high(&mut self, lo: Numeral) -> Result<Bounds, LineFault>
+        ensures { ended (shown_pair result) self.new ≡ high_in lo self.old }
     {
-        let at = self.start(at, b"hi")?;
-        let hi = self.number(at)?;
+        self.start(b"hi")?;
+        let hi = self.number()?;
         let bounds = pair(lo, hi)?;
-        let next = self.expect(hi.next, b")")?;
-        Ok(Span {
-            lo: bounds.lo(),
-            hi: bounds.hi(),
-            next,
-        })
+        self.expect(b")")?;
+        Ok(bounds)
     }
 
     // The lower and the upper bound.
-    pub fn bounds(self, at: usize) -> Result<Span, LineFault>
-        requires { at ≤ length self.text.now }
-        ensures within { IfOk result (λ s. s.next ≤ length self.entry.text.now) }
-        ensures is { result ≡ bounds_in self.entry.number self.entry.text.now at }
+    pub fn bounds(&mut self) -> Result<Bounds, LineFault>
+        ensures { ended (shown_pair result) self.new ≡ bounds_in self.old }
     {
-        let lo = self.low(at)?;
-        let at = self.expect(lo.next, b" ")?;
-        self.high(at, lo)
+        let lo = self.low()?;
+        self.expect(b" ")?;
+        self.high(lo)
     }
 }
 
-// The pair of bounds that two numbers make.
+// The pair of bounds that two numbers make; a fault stands at the upper one.
 fn pair(lo: Numeral, hi: Numeral) -> Result<Bounds, BoundsFault>
     ensures { shown_pair result ≡ pair_of lo hi }
 {
-    match Bounds::new(lo.value, hi.value) {
-        Ok(bounds) => Ok(bounds),
-        Err(stop) => Err(BoundsFault {
-            spot: hi.spot,
-            stop,
-        }),
-    }
-}
-
-fn same(a: &[u8], b: &[u8]) -> bool
-    ensures { result ≡ bytes_eq a.now b.now }
-{
-    a == b
+    let bounds = Bounds::new(lo.value, hi.value).map_err(|stop| BoundsFault {
+        spot: hi.spot,
+        stop,
+    })?;
+    Ok(bounds)
 }

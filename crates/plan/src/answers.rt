@@ -1,21 +1,12 @@
 // What the program prints: answers, cuts and refusals, a line each.
 
-use files::{FileCost, FileFault};
+use files::{FileCost, ReadStop};
 use networks::Stop;
 use search::Answer;
 use std::io;
 
-pub fn print_fault(rt: &HostRuntime, fault: FileFault) -> io::Result<()> {
-    let line = fault.line();
-    let place = fault.place();
-    let cause = fault.cause();
-    println!(rt; "(refused 13 {line} {place} {cause})")
-}
-
-pub fn print_stop(rt: &HostRuntime, stop: Stop) -> io::Result<()> {
-    let number = stop.number();
-    let place = stop.place();
-    println!(rt; "(refused {number} {place})")
+pub fn print_refusal(rt: &HostRuntime, stop: ReadStop) -> io::Result<()> {
+    println!(rt; "(refused {stop})")
 }
 
 fn print_total<C: FileCost>(rt: &HostRuntime, total: C) -> io::Result<()> {
@@ -29,19 +20,16 @@ fn print_total<C: FileCost>(rt: &HostRuntime, total: C) -> io::Result<()> {
 }
 
 fn print_flow(rt: &HostRuntime, flow: &[i32]) -> io::Result<()> {
-    for (i, f) in flow.iter().enumerate() {
-        let arc = i + 1;
-        let carried = *f;
-        println!(rt; "(flow {arc} {carried})")?;
+    for (i, carried) in flow.iter().enumerate() {
+        println!(rt; "(flow {} {carried})", i + 1)?;
     }
     Ok(())
 }
 
 fn print_cut(rt: &HostRuntime, marks: &[u8]) -> io::Result<()> {
-    for (i, m) in marks.iter().enumerate() {
-        if *m == 1 {
-            let node = i + 1;
-            println!(rt; "(cut {node})")?;
+    for (i, mark) in marks.iter().enumerate() {
+        if *mark == 1 {
+            println!(rt; "(cut {})", i + 1)?;
         }
     }
     Ok(())
@@ -54,7 +42,7 @@ pub fn print_answer<C: FileCost>(
     marks: &[u8],
 ) -> io::Result<()> {
     match settled {
-        Ok(Answer::Least { total, laps: _ }) => {
+        Ok(Answer::Least { total, .. }) => {
             print_total(rt, total)?;
             print_flow(rt, flow)
         }
@@ -63,6 +51,6 @@ pub fn print_answer<C: FileCost>(
             println!(rt; "(none)")?;
             print_cut(rt, marks)
         }
-        Err(stop) => print_stop(rt, stop),
+        Err(stop) => print_refusal(rt, ReadStop::Stop(stop)),
     }
 }

@@ -4,37 +4,19 @@
 
 mod answers;
 
-use answers::{print_answer, print_fault, print_stop};
+use answers::{print_answer, print_refusal};
 use costs::{CostKind, Plain, TwoTier};
-use files::{FileCost, MOST_BYTES, ReadStop, read_header, read_table};
+use files::{FileCost, MOST_ARCS, MOST_BYTES, ReadStop, read_header, read_table};
 use makes::{ArcTable, Row};
 use search::settle;
-use std::alloc::{AllocError, Global};
 use std::io;
 use std::io::Read;
 
 // Standard input, up to one byte more than a file may have.
 fn read_input(rt: &HostRuntime) -> io::Result<Vec<u8>> {
     let mut text = Vec::new(rt.alloc());
-    let mut input = rt.stdin();
-    let mut part = [0u8; 4096];
-    for _ in 0..u64::MAX {
-        let n = input.read(&mut part)?;
-        if n == 0 || text.len() > MOST_BYTES {
-            break;
-        }
-        text.extend_from_slice(&part[0..n])?;
-    }
+    rt.stdin().take(MOST_BYTES as u64 + 1).read_to_end(&mut text)?;
     Ok(text)
-}
-
-// A table of n equal entries.
-fn filled<T: Copy>(heap: Global, x: T, n: usize) -> Result<Vec<T>, AllocError> {
-    let mut table = Vec::new(heap);
-    for _ in 0..n {
-        table.push(x)?;
-    }
-    Ok(table)
 }
 
 // Reads the table, settles it at zero flow with the full budget, and prints the answer.
@@ -47,17 +29,16 @@ fn settle_file<C: FileCost>(rt: &HostRuntime, text: &[u8]) -> io::Result<()> {
         hi: 0,
         cost: C::zero(),
     };
-    let mut rows = filled(heap, row, 1024)?;
+    let mut rows = vec![in heap; row; MOST_ARCS]?;
     let header = match read_table::<C>(text, &mut rows) {
         Ok(header) => header,
-        Err(ReadStop::Fault(fault)) => return print_fault(rt, fault),
-        Err(ReadStop::Stop(stop)) => return print_stop(rt, stop),
+        Err(stop) => return print_refusal(rt, stop),
     };
     rows.truncate(header.arcs);
-    let mut flow = filled(heap, 0i32, header.arcs)?;
-    let needs = filled(heap, 0i32, header.nodes)?;
-    let mut prices = filled(heap, C::zero(), header.nodes)?;
-    let mut marks = filled(heap, 0u8, header.nodes)?;
+    let mut flow = vec![in heap; 0i32; header.arcs]?;
+    let needs = vec![in heap; 0i32; header.nodes]?;
+    let mut prices = vec![in heap; C::zero(); header.nodes]?;
+    let mut marks = vec![in heap; 0u8; header.nodes]?;
     let budget = 2_000_000 * header.arcs as u32;
     let net = ArcTable::new(header.nodes, header.arcs, &mut rows);
     let settled = settle(&net, &mut flow, &needs, &mut prices, &mut marks, budget);
@@ -69,6 +50,6 @@ fn main(rt: HostRuntime) -> io::Result<()> {
     match read_header(&text) {
         Ok(header) if header.tiers == 2 => settle_file::<TwoTier>(&rt, &text),
         Ok(_) => settle_file::<Plain>(&rt, &text),
-        Err(fault) => print_fault(&rt, fault),
+        Err(fault) => print_refusal(&rt, ReadStop::Fault(fault)),
     }
 }

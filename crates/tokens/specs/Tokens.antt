@@ -1,7 +1,7 @@
 -- The token at the front of a text.
-use Rattle.std.specs.Prelude.{ℕ, suc, ◌+◌, ◌-◌, ◌*◌, ◌≤◌, Bool, cond, ◌&&◌, ◌||◌, List, [], ◌∷◌, length, take, drop, ℤ, pos, neg_ℤ, Ok, Err, codes, Result, ◌==◌, nat_le, nat_lt, slice_index}
-use Rattle.tokens.specs.declared.scan.Class.{Class}
-use Rattle.tokens.specs.declared.scan.Class.TheVariants.{Letter, Digit}
+use Rattle.std.specs.Prelude.{ℕ, ◌+◌, ◌-◌, ◌*◌, ◌≤◌, Bool, cond, ◌&&◌, ◌||◌, List, [], ◌∷◌, length, take, drop, ℤ, pos, neg_ℤ, Ok, Err, codes, Result, ◌==◌, nat_lt, slice_index}
+use Rattle.std.specs.Char.{is_ascii_digit, is_ascii_lowercase}
+use Rattle.std.specs.List.{prefix_len}
 use Rattle.tokens.specs.declared.scan.Token.{Token}
 use Rattle.tokens.specs.declared.scan.Token.TheVariants as token
 use Rattle.tokens.specs.declared.spots.Cause.{Cause}
@@ -37,16 +37,6 @@ abbrev pub shown : Result Token Cause → Result Shape Cause
 shown (Ok x) = Ok (shape x)
 shown (Err e) = Err e
 
--- letters are a to z, digits 0 to 9
-abbrev pub of_class : Class → ℕ → Bool
-of_class Letter b = nat_le 97 b && nat_le b 122
-of_class Digit b = nat_le 48 b && nat_le b 57
-
--- how many bytes of a class stand at the front
-abbrev pub run_of : Class → List ℕ → ℕ
-run_of k [] = 0
-run_of k (x ∷ xs) = cond (of_class k x) (suc (run_of k xs)) 0
-
 -- how many bytes the sign takes: one if there is a minus
 abbrev pub sign_of : List ℕ → ℕ
 sign_of xs = cond (slice_index xs 0 == 45) 1 0
@@ -60,7 +50,7 @@ abbrev pub number_of : ℕ → ℕ → List ℕ → Result Shape Cause
 number_of sign digits xs = cond (malformed sign digits (slice_index xs sign)) (Err cause.Number) (Ok (number (take (sign + digits) xs)))
 
 abbrev pub number_at : List ℕ → Result Shape Cause
-number_at xs = number_of (sign_of xs) (run_of Digit (drop (sign_of xs) xs)) xs
+number_at xs = number_of (sign_of xs) (prefix_len is_ascii_digit (drop (sign_of xs) xs)) xs
 
 -- the token that a single byte is
 abbrev pub mark_of : ℕ → Result Shape Cause
@@ -68,8 +58,8 @@ mark_of b = cond (b == 40) (Ok opens) (cond (b == 41) (Ok closes) (cond (b == 32
 
 -- the token at the front, or what is wrong there
 abbrev pub front_of : List ℕ → Result Shape Cause
-front_of xs = cond (length xs == 0) (Err cause.End) (cond (nat_lt 0 (run_of Letter xs)) (Ok (word (take (run_of Letter xs) xs)))
-    (cond (slice_index xs 0 == 45 || of_class Digit (slice_index xs 0)) (number_at xs) (mark_of (slice_index xs 0))))
+front_of xs = cond (length xs == 0) (Err cause.End) (cond (nat_lt 0 (prefix_len is_ascii_lowercase xs)) (Ok (word (take (prefix_len is_ascii_lowercase xs) xs)))
+    (cond (slice_index xs 0 == 45 || is_ascii_digit (slice_index xs 0)) (number_at xs) (mark_of (slice_index xs 0))))
 
 -- what digits say, after a number so far
 abbrev pub decimal : ℕ → List ℕ → ℕ

@@ -1,7 +1,9 @@
 // Tokens: what stands at the front of a text. Words and numbers are parts of the text.
 
 ghost use Rattle.std.specs.Prelude.{◌≡◌, ℕ, ◌+◌, ◌^◌, ◌<◌, ◌≤◌, length, IfOk};
-ghost use Rattle.tokens.specs.Tokens.{of_class, run_of, sign_of, shape, bytes_of, shown, mark_of, number_at, front_of, Within, decimal, value_of};
+ghost use Rattle.std.specs.Char.{is_ascii_digit, is_ascii_lowercase};
+ghost use Rattle.std.specs.List.{prefix_len};
+ghost use Rattle.tokens.specs.Tokens.{sign_of, shape, bytes_of, shown, number_at, front_of, Within, decimal, value_of};
 
 use crate::Cause;
 
@@ -19,32 +21,20 @@ pub enum Token<'a> {
 // The most digits of a number.
 const MOST_DIGITS: usize = 7;
 
-// The bytes that words and numbers are runs of.
-#[derive(Clone, Copy)]
-pub enum Class {
-    Letter,
-    Digit,
-}
-
-fn has(class: Class, b: u8) -> bool
-    ensures { result ≡ of_class class b }
-{
-    match class {
-        Class::Letter => b >= b'a' && b <= b'z',
-        Class::Digit => b >= b'0' && b <= b'9',
-    }
-}
-
-// How many bytes of the class stand at the front.
-fn run(class: Class, s: &[u8]) -> usize
+// How many letters stand at the front.
+fn letters(s: &[u8]) -> usize
     ensures within { result ≤ length s.now }
-    ensures run { result ≡ run_of class s.now }
+    ensures is { result ≡ prefix_len is_ascii_lowercase s.now }
 {
-    let mut n = 0;
-    while n < s.len() && has(class, s[n]) {
-        n += 1;
-    }
-    n
+    s.iter().take_while(|b| b.is_ascii_lowercase()).count()
+}
+
+// How many digits stand at the front.
+fn digits(s: &[u8]) -> usize
+    ensures within { result ≤ length s.now }
+    ensures is { result ≡ prefix_len is_ascii_digit s.now }
+{
+    s.iter().take_while(|b| b.is_ascii_digit()).count()
 }
 
 // How many bytes the sign of a number takes.
@@ -52,10 +42,10 @@ fn sign(s: &[u8]) -> usize
     ensures within { result ≤ length s.now }
     ensures is { result ≡ sign_of s.now }
 {
-    if s.len() == 0 {
-        return 0;
+    match s.first() {
+        Some(b'-') => 1,
+        _ => 0,
     }
-    if s[0] == b'-' { 1 } else { 0 }
 }
 
 // The number at the front: a sign or none, then 1 to 7 digits, of which a zero stands alone.
@@ -65,29 +55,11 @@ fn number<'a>(s: &'a [u8]) -> Result<Token<'a>, Cause>
 {
     let minus = sign(s);
     let (_, tail) = s.split_at(minus);
-    let n = run(Class::Digit, tail);
-    if n == 0 {
+    let n = digits(tail);
+    if n == 0 || n > MOST_DIGITS || tail[0] == b'0' && minus + n > 1 {
         return Err(Cause::Number);
     }
-    if n > MOST_DIGITS {
-        return Err(Cause::Number);
-    }
-    if tail[0] == b'0' && minus + n > 1 {
-        return Err(Cause::Number);
-    }
-    Ok(Token::Number(&s[0..minus + n]))
-}
-
-fn mark<'a>(b: u8) -> Result<Token<'a>, Cause>
-    ensures { shown result ≡ mark_of b }
-{
-    match b {
-        b'(' => Ok(Token::Open),
-        b')' => Ok(Token::Close),
-        b' ' => Ok(Token::Space),
-        b'\n' => Ok(Token::LineFeed),
-        _ => Err(Cause::Byte),
-    }
+    Ok(Token::Number(&s[..minus + n]))
 }
 
 // The token at the front.
@@ -95,18 +67,15 @@ pub fn front<'a>(s: &'a [u8]) -> Result<Token<'a>, Cause>
     ensures within { IfOk result (λ t. Within t (length s.now)) }
     ensures is { shown result ≡ front_of s.now }
 {
-    if s.len() == 0 {
-        return Err(Cause::End);
+    match *s.first().ok_or(Cause::End)? {
+        b'(' => Ok(Token::Open),
+        b')' => Ok(Token::Close),
+        b' ' => Ok(Token::Space),
+        b'\n' => Ok(Token::LineFeed),
+        b'a'..=b'z' => Ok(Token::Word(&s[..letters(s)])),
+        b'-' | b'0'..=b'9' => number(s),
+        _ => Err(Cause::Byte),
     }
-    let n = run(Class::Letter, s);
-    if n > 0 {
-        return Ok(Token::Word(&s[0..n]));
-    }
-    let b = s[0];
-    if b == b'-' || has(Class::Digit, b) {
-        return number(s);
-    }
-    mark(b)
 }
 
 impl<'a> Token<'a> {
@@ -125,6 +94,7 @@ impl<'a> Token<'a> {
 }
 
 // What at most 7 digits say.
+#[tactic(auto, using(crate::proofs::Tens::most_tens))]
 fn magnitude(digits: &[u8]) -> u32
     requires { length digits.now ≤ 7 }
     ensures within { result < 2 ^ 31 }

@@ -1,6 +1,6 @@
-use Rattle.std.proofs.Common.{◌≡◌, ◌+◌, ◌-◌}
-use Rattle.files.specs.Tables.{rows_in, text_after}
+use Rattle.std.proofs.Common.{◌≡◌, ◌-◌}
+use Rattle.files.specs.Tables.{rows_in, passed}
 use Rattle.files.proofs.tables.check_rows.Given as goal
 
-abbrev pub invariant-loop-i : goal.invariant-loop-i
-invariant-loop-i g l = text_after (rows_in g.C.FileCost.numbers l.header.nodes (l.i + 2) (l.header.arcs - l.i) l.rest) ≡ text_after (rows_in g.C.FileCost.numbers l.header.nodes 2 l.header.arcs l.text)
+abbrev pub invariant-loop : goal.invariant-loop
+invariant-loop g l = passed (rows_in g.C.FileCost.numbers l.header.nodes (l.header.arcs - l.counter) l.cursor) ≡ passed (rows_in g.C.FileCost.numbers l.header.nodes l.header.arcs l.fn.cursor)

@@ -1,8 +1,7 @@
-use Rattle.std.proofs.Common.{◌≡◌, ◌+◌, ◌-◌, take, drop}
+use Rattle.std.proofs.Common.{◌≡◌, ◌-◌, length, take}
 use Rattle.files.specs.Tables.{rows_in}
 use Rattle.files.proofs.Rows.{put}
 use Rattle.files.proofs.tables.read_rows.Given as goal
 
-abbrev pub invariant-loop-i : goal.invariant-loop-i
-invariant-loop-i g l = (put (take l.i l.rows) (rows_in g.C.FileCost.numbers l.header.nodes (l.i + 2) (l.header.arcs - l.i) l.rest) ≡ rows_in g.C.FileCost.numbers l.header.nodes 2 l.header.arcs l.text)
-    × (drop l.header.arcs l.rows ≡ drop l.header.arcs l.initial.rows)
+abbrev pub invariant-loop-row : goal.invariant-loop-row
+invariant-loop-row g l = put (take l.row-index l.rows) (rows_in g.C.FileCost.numbers l.nodes (length l.fn.rows - l.row-index) l.cursor) ≡ rows_in g.C.FileCost.numbers l.nodes (length l.fn.rows) l.fn.cursor
