@@ -3,14 +3,19 @@
 ghost use Rattle.std.specs.Prelude.{◌≡◌, is_some};
 ghost use Rattle.flows.specs.Kilter.{out_of_kilter, way};
 
+use crate::views::Seen;
 use costs::CostKind;
-use networks::Arc;
 
-// The way in which an arc that carries f at the reduced cost c has to move: along or against; none where it is in kilter.
-pub fn amiss<C: CostKind>(arc: Arc<C>, c: C, f: i32) -> Option<bool>
-    ensures way { result ≡ way C.CostKind.kind c arc f }
-    ensures test { is_some result ≡ out_of_kilter C.CostKind.kind c arc f }
+// The way in which an arc has to move: along or against; none where it is in kilter.
+pub fn amiss<C: CostKind>(seen: Seen<C>) -> Option<bool>
+    ensures way { result ≡ way C.CostKind.kind seen.cost seen.arc seen.flow }
+    ensures test { is_some result ≡ out_of_kilter C.CostKind.kind seen.cost seen.arc seen.flow }
 {
+    let Seen {
+        arc,
+        cost: c,
+        flow: f,
+    } = seen;
     if f < arc.lo {
         return Some(true);
     }

@@ -20,8 +20,6 @@ pub fn settle_new<N: Network>(
 ) -> Result<Answer<N::Cost>, Stop>
     ensures { SettlesNew N.Cost.CostKind.kind (state (N.meaning net.now) flow.old needs.old prices.old marks.old) budget result (state (N.meaning net.now) flow.new needs.new prices.new marks.new) }
 {
-    if let Err(stop) = open(net, flow, needs, prices, marks) {
-        return Err(stop);
-    }
+    open(net, flow, needs, prices, marks)?;
     settle(net, flow, needs, prices, marks, budget)
 }

@@ -10,14 +10,6 @@ use costs::CostKind;
 use networks::{Network, Stop, TagRing};
 use runs::{Call, Outcome};
 
-// Writes an outcome.
-fn note<C: Copy>(outcomes: &mut [Outcome<C>], i: usize, outcome: Outcome<C>)
-    requires { i < length outcomes.old }
-    ensures { outcomes.new ≡ slice_set outcomes.old i outcome }
-{
-    outcomes[i] = outcome;
-}
-
 // Makes the calls in order, and says how many it made; it ends early only where outcomes or tags run short.
 fn make_all<N: Network>(
     net: &mut N,
@@ -32,14 +24,14 @@ fn make_all<N: Network>(
 ) -> usize
     ensures { MakesAll N.Cost.CostKind.kind (state (N.meaning net.old) flow.old needs.now prices.old marks.old) tags.old.places offers.now calls.now outcomes.old result (state (N.meaning net.new) flow.new needs.now prices.new marks.new) tags.new.places outcomes.new }
 {
-    for i in 0..calls.len() {
+    for (i, call) in calls.iter().enumerate() {
         if i >= outcomes.len() {
             return i;
         }
-        let Some(outcome) = make(net, flow, needs, prices, marks, tags, offers, calls[i]) else {
+        let Some(outcome) = make(net, flow, needs, prices, marks, tags, offers, *call) else {
             return i;
         };
-        note(outcomes, i, outcome);
+        outcomes[i] = outcome;
     }
     calls.len()
 }
@@ -59,9 +51,7 @@ pub fn run<N: Network>(
 ) -> Result<usize, Stop>
     ensures { Runs N.Cost.CostKind.kind (state (N.meaning net.old) flow.old needs.old prices.old marks.old) tags.old.places offers.now calls.now outcomes.old result (state (N.meaning net.new) flow.new needs.new prices.new marks.new) tags.new.places outcomes.new }
 {
-    if let Err(stop) = open(net, flow, needs, prices, marks) {
-        return Err(stop);
-    }
+    open(net, flow, needs, prices, marks)?;
     Ok(make_all(
         net, flow, needs, prices, marks, tags, offers, calls, outcomes,
     ))

@@ -2,3 +2,4 @@ pub mod States
 pub mod Events
 pub mod Steps
 pub mod Runs
+pub mod Outcomes

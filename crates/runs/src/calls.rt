@@ -1,5 +1,7 @@
 // The calls on a plan, as a list can hold them, and their outcomes.
 
+ghost use Rattle.runs.specs.Outcomes.{settled_as, done_as};
+
 use networks::{Bounds, Stop};
 use search::Answer;
 
@@ -15,9 +17,31 @@ pub enum Call<C> {
 }
 
 // What came of a call: granted with settle's answer, granted, or refused.
-#[derive(Clone, Copy)]
+#[derive(Clone, Copy, Debug, PartialEq)]
 pub enum Outcome<C> {
     Settled(Answer<C>),
     Done,
     Refused(Stop),
+}
+
+impl<C> From<Result<Answer<C>, Stop>> for Outcome<C> {
+    ghost from_gives = { λ r o. o ≡ settled_as r };
+
+    fn from(r: Result<Answer<C>, Stop>) -> Outcome<C> {
+        match r {
+            Ok(answer) => Outcome::Settled(answer),
+            Err(stop) => Outcome::Refused(stop),
+        }
+    }
+}
+
+impl<C> From<Result<(), Stop>> for Outcome<C> {
+    ghost from_gives = { λ r o. o ≡ done_as r };
+
+    fn from(r: Result<(), Stop>) -> Outcome<C> {
+        match r {
+            Ok(()) => Outcome::Done,
+            Err(why) => Outcome::Refused(why),
+        }
+    }
 }

@@ -1,5 +1,5 @@
 -- What each end of the search comes to once the prices are tidied.
-use Rattle.std.proofs.Common.{◌≡◌, ℕ, suc, ◌-◌, ◌*◌, ◌<◌, ◌≤◌, List, [], ◌∷◌, length, get_or, ℤ, pos, sym, ◌∙◌, subst, arith}
+use Rattle.std.proofs.Common.{◌≡◌, ℕ, Ok, Err, Result, suc, ◌-◌, ◌*◌, ◌<◌, ◌≤◌, List, [], ◌∷◌, length, get_or, ℤ, pos, sym, ◌∙◌, subst, arith}
 use Rattle.std.specs.List.{AllByRecursion}
 use Rattle.std.proofs.lemmas.List.{get_or_default}
 use Rattle.costs.specs.Kinds.{Kind, Laws, sums}
@@ -13,9 +13,10 @@ use Rattle.flows.proofs.Cuts.{cut_found}
 use Rattle.flows.proofs.Lapping.{laps_meet}
 use Rattle.flows.proofs.Settling.{lap_not_least}
 use Rattle.tidy.specs.Picks.{Tidied}
-use Rattle.search.specs.declared.seek.End.{End}
-use Rattle.search.specs.declared.seek.End.TheVariants.{Kilter, Paused, Cut}
-use Rattle.search.specs.Going.{Ready, Going, Ended, LapAtHand, CutMarked}
+use Rattle.search.specs.declared.seek.Halt.{Halt}
+use Rattle.search.specs.declared.seek.Halt.TheVariants.{Paused, Cut}
+use Rattle.search.specs.Ready.{Ready}
+use Rattle.search.specs.Going.{Going, Ended, LapAtHand, CutMarked}
 use Rattle.search.specs.Settling.{tables}
 use Rattle.search.proofs.Taming.{tidied_ready, tidied_eased}
 use Rattle.search.proofs.Steps.{going_repriced}
@@ -64,7 +65,12 @@ none_left K N arcs found flow back needs laps ps qs rs ms marks l long meets goi
 }
 
 -- however the search ends, it is ready for more
-pub ended_ready : {C : Type 0} (K : Kind C) (N : ℕ) (arcs : List (Arc C)) (found : List ℤ) (i budget : ℕ) (flow : List ℤ) (prices : List C) (marks after : List ℕ) (e : End) → Ended K N arcs found i budget flow prices marks after e → Ready K N arcs flow prices
-ended_ready K N arcs found i budget flow prices marks after (Kilter n) h = h.0.ready
-ended_ready K N arcs found i budget flow prices marks after (Paused n) h = h.0.ready
-ended_ready K N arcs found i budget flow prices marks after Cut h = h.1.ready
+pub ended_ready : {C : Type 0} (K : Kind C) (N : ℕ) (arcs : List (Arc C)) (found : List ℤ) (i budget : ℕ) (flow : List ℤ) (prices : List C) (marks after : List ℕ) (e : Result ℕ Halt) → Ended K N arcs found i budget flow prices marks after e → Ready K N arcs flow prices
+ended_ready K N arcs found i budget flow prices marks after (Ok n) h = h.0.ready
+ended_ready K N arcs found i budget flow prices marks after (Err (Paused n)) h = h.0.ready
+ended_ready K N arcs found i budget flow prices marks after (Err Cut) h = h.1.ready
+
+-- where the seeking stops early, it does not matter how far it was to go; the marks were those at the start
+pub ended_early : {C : Type 0} (K : Kind C) (N : ℕ) (arcs : List (Arc C)) (found : List ℤ) (i j budget : ℕ) (flow : List ℤ) (prices : List C) (old marks after : List ℕ) (h : Halt) → marks ≡ old → Ended K N arcs found i budget flow prices marks after (Err h) → Ended K N arcs found j budget flow prices old after (Err h)
+ended_early K N arcs found i j budget flow prices old marks after (Paused n) q e = (e.0, e.1, e.2, e.3 ∙ q)
+ended_early K N arcs found i j budget flow prices old marks after Cut q e = e

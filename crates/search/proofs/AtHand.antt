@@ -8,7 +8,7 @@ use Rattle.flows.specs.declared.steps.Step.{Step}
 use Rattle.flows.specs.Fits.{Fitting, Small}
 use Rattle.flows.specs.Laps.{sent}
 use Rattle.labels.specs.declared.labelling.Labels.{Labels}
-use Rattle.labels.specs.Good.{entry_at, place_of}
+use Rattle.labels.specs.Good.{count, entry_at, place_of}
 use Rattle.labels.specs.Ways.{Way, Moving, FitsIn}
 use Rattle.labels.proofs.Rooming.{room_some}
 use Rattle.labels.proofs.Trails.{all_moving, gone}
@@ -18,7 +18,7 @@ use Rattle.search.specs.Going.{LapAtHand}
 module _ {C : Type 0} (K : Kind C) (laws : Laws K) (arcs : List (Arc C)) (flow : List ℤ) (prices : List C) (fitting : Fitting K (length prices) arcs) (long : length flow ≡ length arcs) (small : Small flow) (s : Step) (ls : Labels)
     (low : 1 ≤ s.node) (found : ChainFound K arcs flow prices s ls) where
   -- from any place back to the source
-  way_back : (k n m : ℕ) (rest : List Step) → m ≤ n → m < ls.count → Way ls m rest k → (xs : List Step) × Way ls 0 xs k
+  way_back : (k n m : ℕ) (rest : List Step) → m ≤ n → m < count ls → Way ls m rest k → (xs : List Step) × Way ls 0 xs k
   way_back k zero m rest h c w = (rest, let z : m ≡ 0 = omega arith in subst (λ j. Way ls j rest k) z w)
   way_back k (suc n) m rest h c w =
       ⊎_elim (λ (z : m ≡ 0). (rest, subst (λ j. Way ls j rest k) z w))
@@ -36,7 +36,7 @@ module _ {C : Type 0} (K : Kind C) (laws : Laws K) (arcs : List (Arc C)) (flow :
   at_hand =
       let h = found.good.whole.holds s.node low found.reached in
       let k = place_of ls s.node - 1 in
-      let place : k < ls.count = omega (arith, h.0, found.reached) in
+      let place : k < count ls = omega (arith, h.0, found.reached) in
       let w = way_back k k k [] (omega arith) place refl in
       let m = all_moving K laws arcs flow prices fitting s ls found.good k place h.1 w.0 w.1 long small found.wanted in
       let r = gone K laws arcs flow prices fitting s ls found.good k place h.1 w.0 w.1 long small found.wanted (pos 1) (sent (pos 1) (s ∷ w.0) flow) (record { le = tt }) (one_fits (s ∷ w.0) m) refl in

@@ -9,7 +9,8 @@ use Rattle.flows.proofs.Prices.{kept_signs_ease}
 use Rattle.tidy.specs.Picks.{Tidied}
 use Rattle.tidy.proofs.Sounds.{sound_from}
 use Rattle.reach.specs.Rounds.{large}
-use Rattle.search.specs.Going.{Ready, Eased}
+use Rattle.search.specs.Ready.{Ready}
+use Rattle.search.specs.Going.{Eased}
 
 module _ {C : Type 0} (K : Kind C) where
   pub eased_same : (arcs : List (Arc C)) (flow : List ℤ) (ps : List C) → length flow ≡ length arcs → Eased K arcs flow ps ps

@@ -1,5 +1,5 @@
 -- What holds at each step of the search, and what one attempt at an arc does.
-use Rattle.std.specs.Prelude.{◌≡◌, ℕ, ◌+◌, ◌<◌, ◌≤◌, false, List, length, ℤ, pos, slice_index, slice_index_or}
+use Rattle.std.specs.Prelude.{◌≡◌, ℕ, ◌+◌, ◌<◌, ◌≤◌, false, List, length, ℤ, pos, Ok, Err, Result, slice_index, slice_index_or}
 use Rattle.costs.specs.Kinds.{Kind}
 use Rattle.networks.specs.declared.network.Arc.{Arc}
 use Rattle.networks.specs.Nets.{IsAt}
@@ -7,22 +7,14 @@ use Rattle.flows.specs.declared.steps.Step.{Step}
 use Rattle.flows.specs.Flows.{EachArc}
 use Rattle.flows.specs.Kilter.{reduced, kilter_number, kilter_sum, lap_limit, out_of_kilter}
 use Rattle.flows.specs.Laps.{Lap, Better, Laps}
-use Rattle.flows.specs.Fits.{Fitting, Small, Bounded, found_limit}
+use Rattle.search.specs.Ready.{Ready}
 use Rattle.flows.specs.Cuts.{marked}
 use Rattle.flows.proofs.Cuts.{Stuck, Strained}
 use Rattle.labels.specs.Ways.{Chosen, GoneRound}
-use Rattle.search.specs.declared.seek.End.{End}
+use Rattle.search.specs.declared.seek.Halt.{Halt}
+use Rattle.search.specs.declared.seek.Halt.TheVariants as halt
 use Rattle.search.specs.declared.attempts.Tried.{Tried}
 use Rattle.search.specs.declared.attempts.Tried.TheVariants.{Kilter, Lapped, Short, Cut}
-
--- the network fits, and the tables are of their lengths and within the limits
-pub record Ready {C : Type 0} (K : Kind C) (N : ℕ) (arcs : List (Arc C)) (flow : List ℤ) (prices : List C) : Type 0 where
-  pub fitting : Fitting K N arcs
-  pub few : N ≤ 256
-  pub priced : length prices ≡ N
-  pub bounded : Bounded K found_limit prices
-  pub long : length flow ≡ length arcs
-  pub small : Small flow
 
 -- from the prices ps to qs no arc's kilter number rose
 abbrev pub Eased : {C : Type 0} → Kind C → List (Arc C) → List ℤ → List C → List C → Type 0
@@ -67,7 +59,7 @@ pub record Going {C : Type 0} (K : Kind C) (N : ℕ) (arcs : List (Arc C)) (foun
   pub done : (j : ℕ) → j < i → KilterAt K arcs flow prices j
 
 -- it ended with the arcs before place i in kilter, or at a pause, or at a cut
-abbrev pub Ended : {C : Type 0} → Kind C → ℕ → List (Arc C) → List ℤ → ℕ → ℕ → List ℤ → List C → List ℕ → List ℕ → End → Type 0
-Ended K N arcs found i budget flow prices marks after (End.Kilter n) = Going K N arcs found i n flow prices × (n ≤ budget) × (after ≡ marks)
-Ended K N arcs found i budget flow prices marks after (End.Paused n) = Going K N arcs found 0 n flow prices × (n ≡ budget) × LapAtHand K arcs flow prices × (after ≡ marks)
-Ended K N arcs found i budget flow prices marks after End.Cut = (n : ℕ) × Going K N arcs found 0 n flow prices × CutMarked arcs flow after
+abbrev pub Ended : {C : Type 0} → Kind C → ℕ → List (Arc C) → List ℤ → ℕ → ℕ → List ℤ → List C → List ℕ → List ℕ → Result ℕ Halt → Type 0
+Ended K N arcs found i budget flow prices marks after (Ok n) = Going K N arcs found i n flow prices × (n ≤ budget) × (after ≡ marks)
+Ended K N arcs found i budget flow prices marks after (Err (halt.Paused n)) = Going K N arcs found 0 n flow prices × (n ≡ budget) × LapAtHand K arcs flow prices × (after ≡ marks)
+Ended K N arcs found i budget flow prices marks after (Err halt.Cut) = (n : ℕ) × Going K N arcs found 0 n flow prices × CutMarked arcs flow after

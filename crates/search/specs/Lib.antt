@@ -1,2 +1,3 @@
+pub mod Ready
 pub mod Going
 pub mod Settling

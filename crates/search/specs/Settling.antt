@@ -1,9 +1,12 @@
 -- How settle reads a price, and what it owes for each answer and refusal.
-use Rattle.std.specs.Prelude.{◌≡◌, ℕ, cond, List, ℤ, Ok, Err, Result, nat_le}
+use Rattle.std.specs.Prelude.{◌≡◌, ℕ, cond, List, length, take, ℤ, Ok, Err, Some, Option, Result, nat_le}
+use Rattle.std.specs.Prelude as prelude
 use Rattle.costs.specs.Kinds.{Kind}
 use Rattle.networks.specs.declared.stops.Stop.{Stop}
 use Rattle.networks.specs.Nets.{Net, shown}
 use Rattle.flows.specs.Settles.{Tables, Answered, least, paused, none, Settles, InWords}
+use Rattle.search.specs.declared.seek.Halt.{Halt}
+use Rattle.search.specs.declared.settling.Found.{Found}
 use Rattle.search.specs.declared.settling.Answer.{Answer}
 use Rattle.search.specs.declared.settling.Answer.TheVariants.{Least, Paused, None}
 
@@ -13,6 +16,16 @@ read_price_as K limit p = cond (nat_le (K.size p) limit) p K.zero
 
 abbrev pub tables : {C : Type 0} → List ℤ → List ℤ → List C → List ℕ → Tables C
 tables flow needs prices marks = record { flow = flow; needs = needs; prices = prices; marks = marks }
+
+-- what the guard leaves: the flow as it was saved, where it is still saved
+abbrev pub restored : Option (List ℤ) → List ℤ → List ℤ
+restored prelude.None flow = flow
+restored (Some saved) flow = take (length flow) saved
+
+-- the laps of a search that found a flow, or why it stopped
+abbrev pub laps_of : {C : Type 0} → Result (Found C) Halt → Result ℕ Halt
+laps_of (Ok f) = Ok f.laps
+laps_of (Err h) = Err h
 
 -- the answer, in the words of the rules
 abbrev pub answered : {C : Type 0} → Answer C → Answered C

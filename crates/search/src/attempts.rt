@@ -1,18 +1,17 @@
 // One attempt to bring an arc nearer to kilter: by a change of prices, or by one lap.
 
-ghost use Rattle.std.specs.Prelude.{◌≡◌, ℕ, ◌<◌, ◌≤◌, Bool, true, false, length, if◌then◌else◌, MatchOption, nat_lt, slice_index};
+ghost use Rattle.std.specs.Prelude.{◌≡◌, ℕ, ◌<◌, ◌≤◌, true, false, length, if◌then◌else◌, MatchOption, nat_lt, slice_index};
 ghost use Rattle.networks.specs.Nets.{shown};
 ghost use Rattle.flows.specs.Fits.{Bounded};
-ghost use Rattle.labels.specs.Good.{place_of};
 ghost use Rattle.reach.specs.Rounds.{large};
-ghost use Rattle.reach.specs.Scans.{is_labelled};
-ghost use Rattle.search.specs.Going.{Ready, Eased, KilterAt, Wanted, Attempted};
+ghost use Rattle.search.specs.Ready.{Ready};
+ghost use Rattle.search.specs.Going.{Eased, KilterAt, Wanted, Attempted};
 
 use costs::CostKind;
-use flows::{Step, amiss, reduced};
-use labels::{Labels, begin, far_end, lap};
+use flows::{Step, View, amiss};
+use labels::{Labels, far_end, lap};
 use networks::Network;
-use reach::{Ending, reach};
+use reach::{Over, reach};
 use tidy::tidy;
 
 // Prices above this size are tidied before the next search for a chain.
@@ -37,12 +36,7 @@ pub struct Choice {
 fn any_large<C: CostKind>(prices: &[C]) -> bool
     ensures { result ≡ false → Bounded C.CostKind.kind large prices.now }
 {
-    for p in prices {
-        if p.size() > LARGE {
-            return true;
-        }
-    }
-    false
+    prices.iter().any(|p| p.size() > LARGE)
 }
 
 // Tidies the prices where one is large.
@@ -57,27 +51,20 @@ fn tame<N: Network>(net: &N, flow: &[i32], prices: &mut [N::Cost])
     }
 }
 
-// The step that the arc after i wants; none where it is in kilter.
-fn wanted<N: Network>(net: &N, flow: &[i32], prices: &[N::Cost], i: usize) -> Option<Choice>
-    requires ready { Ready N.Cost.CostKind.kind (N.meaning net.now).nodes (shown (N.meaning net.now)) flow.now prices.now }
-    requires arc { i < length flow.now }
-    ensures { MatchOption result (KilterAt N.Cost.CostKind.kind (shown (N.meaning net.now)) flow.now prices.now i) (λ x. Wanted N.Cost.CostKind.kind (N.meaning net.now).nodes (shown (N.meaning net.now)) flow.now prices.now i x.step x.source) }
+// The step that the arc at i wants; none where it is in kilter.
+fn wanted<N: Network>(view: &View<N>, i: usize) -> Option<Choice>
+    requires { i < length view.now.flow.now }
+    ensures { MatchOption result (KilterAt N.Cost.CostKind.kind (shown (N.meaning view.now.net.now)) view.now.flow.now view.now.prices.now i) (λ x. Wanted N.Cost.CostKind.kind (length view.now.prices.now) (shown (N.meaning view.now.net.now)) view.now.flow.now view.now.prices.now i x.step x.source) }
 {
-    let Some(arc) = net.arc(i + 1) else {
-        return None;
-    };
-    let Some(along) = amiss(arc, reduced(arc, prices), flow[i]) else {
-        return None;
-    };
-    let source = far_end(arc, along);
-    let node = far_end(arc, !along);
+    let arc = view.arc(i);
+    let along = amiss(view.see(i, arc))?;
     Some(Choice {
         step: Step {
-            node,
+            node: far_end(arc, !along),
             arc: i,
             along,
         },
-        source,
+        source: far_end(arc, along),
     })
 }
 
@@ -93,12 +80,12 @@ fn mark(marks: &mut [u8], labels: &Labels)
     requires { length marks.old ≤ 256 }
     ensures { (k : ℕ) → k < length marks.new → slice_index marks.new k ≡ (if nat_lt 0 (slice_index labels.now.places k) then 1 else 0) }
 {
-    for i in 0..marks.len() {
-        marks[i] = mark_of(labels.places[i]);
+    for (i, m) in marks.iter_mut().enumerate() {
+        *m = mark_of(labels.places[i]);
     }
 }
 
-// One attempt at the arc after i; a lap is made only where one may be.
+// One attempt at the arc at i; a lap is made only where one may be.
 pub fn attempt<N: Network>(
     net: &N,
     flow: &mut [i32],
@@ -116,17 +103,17 @@ pub fn attempt<N: Network>(
     ensures spends { (result ≡ Tried.Lapped → may_lap ≡ true) × (result ≡ Tried.Short → may_lap ≡ false) }
 {
     tame(net, flow, prices);
-    let Some(choice) = wanted(net, flow, prices, i) else {
+    let Some(choice) = wanted(&View { net, flow, prices }, i) else {
         return Tried::Kilter;
     };
-    let mut labels = begin(choice.source);
+    let mut labels = Labels::begin(choice.source);
     match reach(net, flow, prices, choice.step, &mut labels) {
-        Ending::Kilter => Tried::Kilter,
-        Ending::Cut => {
+        Err(Over::Kilter) => Tried::Kilter,
+        Err(Over::Cut) => {
             mark(marks, &labels);
             Tried::Cut
         }
-        Ending::Reached => {
+        Ok(()) => {
             if !may_lap {
                 return Tried::Short;
             }

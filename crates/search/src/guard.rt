@@ -1,24 +1,21 @@
 // The guard over a lent flow: it puts the flow back as it was saved, unless the search commits.
 
-ghost use Rattle.std.specs.Prelude.{◌≡◌, ℕ, ◌≤◌, length, take, if◌then◌else◌};
+ghost use Rattle.std.specs.Prelude.{◌≡◌, ℕ, ◌≤◌, length, take};
+ghost use Rattle.search.specs.Settling.{restored};
 
 pub struct Restore<'a> {
     pub flow: &'a mut [i32],
-    pub saved: [i32; 1024],
-    pub committed: bool,
+    // Nothing once the search has committed.
+    pub saved: Option<[i32; 1024]>,
 }
 
 impl Drop for Restore<'_> {
     fn drop(self)
         requires { length self.flow.now ≤ 1024 }
-        ensures { self.exit.0.now ≡ (if self.entry.committed then self.entry.flow.now else take (length self.entry.flow.now) self.entry.saved) }
+        ensures { self.exit.0.now ≡ restored self.entry.saved self.entry.flow.now }
     {
-        let Restore {
-            flow,
-            saved,
-            committed,
-        } = self;
-        if !committed {
+        let Restore { flow, saved } = self;
+        if let Some(saved) = saved {
             put_back(flow, &saved);
         }
     }

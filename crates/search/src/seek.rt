@@ -2,20 +2,20 @@
 
 ghost use Rattle.std.specs.Prelude.{◌≡◌, ℕ, ◌+◌, ◌<◌, ◌≤◌, List, length, ℤ};
 ghost use Rattle.networks.specs.Nets.{shown};
-ghost use Rattle.search.specs.Going.{Ready, Going, Ended};
+ghost use Rattle.search.specs.Ready.{Ready};
+ghost use Rattle.search.specs.Going.{Going, Ended};
 
 use crate::attempts::{Tried, attempt};
 use networks::Network;
 
-// How the seeking ends, with the laps made.
+// Why the seeking stops early: the budget is used up by so many laps, or there is a cut.
 #[derive(Clone, Copy)]
-pub enum End {
-    Kilter(u32),
+pub enum Halt {
     Paused(u32),
     Cut,
 }
 
-// Attempts at the arc after i until it is in kilter. The flow found is where the search began.
+// Attempts at the arc at i until it is in kilter; answers the laps made. The flow found is where the search began.
 fn bring_in<N: Network>(
     net: &N,
     flow: &mut [i32],
@@ -24,7 +24,7 @@ fn bring_in<N: Network>(
     i: usize,
     budget: u32,
     made: u32,
-) -> End
+) -> Result<u32, Halt>
     requires ready { Ready N.Cost.CostKind.kind (N.meaning net.now).nodes (shown (N.meaning net.now)) flow.old prices.old }
     requires arc { i < length flow.old }
     requires spent { made ≤ budget }
@@ -34,33 +34,30 @@ fn bring_in<N: Network>(
     let mut laps = made;
     loop {
         match attempt(net, flow, prices, marks, i, laps < budget) {
-            Tried::Kilter => return End::Kilter(laps),
-            Tried::Short => return End::Paused(laps),
-            Tried::Cut => return End::Cut,
+            Tried::Kilter => return Ok(laps),
+            Tried::Short => return Err(Halt::Paused(laps)),
+            Tried::Cut => return Err(Halt::Cut),
             Tried::Lapped => laps += 1,
         }
     }
 }
 
-// Brings every arc into kilter, in order; an arc in kilter stays so.
+// Brings every arc into kilter, in order; an arc in kilter stays so. Answers the laps made.
 pub fn seek<N: Network>(
     net: &N,
     flow: &mut [i32],
     prices: &mut [N::Cost],
     marks: &mut [u8],
     budget: u32,
-) -> End
+) -> Result<u32, Halt>
     requires going { Going N.Cost.CostKind.kind (N.meaning net.now).nodes (shown (N.meaning net.now)) flow.old 0 0 flow.old prices.old }
     requires marks { length marks.old ≡ (N.meaning net.now).nodes }
     ensures { Ended N.Cost.CostKind.kind (N.meaning net.now).nodes (shown (N.meaning net.now)) flow.old (length flow.old) budget flow.new prices.new marks.old marks.new result }
 {
     let mut laps = 0;
+    // An arc goes by its place: the flow changes on the way.
     for i in 0..flow.len() {
-        match bring_in(net, flow, prices, marks, i, budget, laps) {
-            End::Kilter(made) => laps = made,
-            End::Paused(made) => return End::Paused(made),
-            End::Cut => return End::Cut,
-        }
+        laps = bring_in(net, flow, prices, marks, i, budget, laps)?;
     }
-    End::Kilter(laps)
+    Ok(laps)
 }

@@ -1,6 +1,6 @@
 // Settle: the search for a least-cost flow from the flow found, with its answer.
 
-ghost use Rattle.std.specs.Prelude.{◌≡◌, ℕ, ◌<◌, ◌≤◌, cond, length, slice_index, slice_index_or};
+ghost use Rattle.std.specs.Prelude.{◌≡◌, ℕ, ◌<◌, ◌≤◌, cond, length, slice_index, slice_index_or, IfOk};
 ghost use Rattle.networks.specs.Answers.{refusal};
 ghost use Rattle.networks.specs.Nets.{shown};
 ghost use Rattle.flows.specs.Fits.{Fitting};
@@ -9,17 +9,17 @@ ghost use Rattle.flows.specs.Flows.{total as total_of};
 ghost use Rattle.flows.specs.Stops.{first_stop as first_stop_of};
 ghost use Rattle.costs.specs.Kinds.{sums};
 ghost use Rattle.search.specs.Going.{Going, Ended};
-ghost use Rattle.search.specs.Settling.{read_price_as, tables, Settled, Worded};
+ghost use Rattle.search.specs.Settling.{read_price_as, laps_of, tables, Settled, Worded};
 
 use crate::guard::{Restore, save};
-use crate::seek::{End, seek};
+use crate::seek::{Halt, seek};
 use costs::CostKind;
-use flows::{first_stop, total};
+use flows::{arcs_of, first_stop, total};
 use networks::{Network, Stop};
 use tidy::tidy;
 
 // What settle answers: a least flow with its total, a pause where the budget is used up, or that there is no flow.
-#[derive(Clone, Copy)]
+#[derive(Clone, Copy, Debug, PartialEq)]
 pub enum Answer<C> {
     Least { total: C, laps: u32 },
     Paused { laps: u32 },
@@ -31,10 +31,7 @@ fn largest_cost<N: Network>(net: &N) -> u64
     ensures { result ≡ largest N.Cost.CostKind.kind (shown (N.meaning net.now)) }
 {
     let mut most = 0;
-    for i in 0..net.arcs() {
-        let Some(arc) = net.arc(i + 1) else {
-            return most;
-        };
+    for arc in arcs_of(net) {
         most = most.max(arc.cost.size());
     }
     most
@@ -50,23 +47,21 @@ fn read_price<C: CostKind>(p: C, limit: u64) -> C
 fn read_prices<C: CostKind>(prices: &mut [C], limit: u64)
     ensures { (k : ℕ) → k < length prices.new → slice_index_or prices.new k C.CostKind.kind.zero ≡ read_price_as C.CostKind.kind limit (slice_index_or prices.old k C.CostKind.kind.zero) }
 {
-    for i in 0..prices.len() {
-        prices[i] = read_price(prices[i], limit);
+    for p in prices.iter_mut() {
+        *p = read_price(*p, limit);
     }
 }
 
 fn clear(marks: &mut [u8])
     ensures { (k : ℕ) → k < length marks.new → slice_index marks.new k ≡ 0 }
 {
-    for m in marks.iter_mut() {
-        *m = 0;
-    }
+    marks.fill(0);
 }
 
-// How the search ended, and the total of the flow that it left.
+// The laps that the search made, and the total of the flow that it left.
 #[derive(Clone, Copy)]
 pub struct Found<C> {
-    pub end: End,
+    pub laps: u32,
     pub total: C,
 }
 
@@ -77,18 +72,18 @@ fn search<N: Network>(
     prices: &mut [N::Cost],
     marks: &mut [u8],
     budget: u32,
-) -> Found<N::Cost>
+) -> Result<Found<N::Cost>, Halt>
     requires going { Going N.Cost.CostKind.kind (N.meaning net.now).nodes (shown (N.meaning net.now)) flow.old 0 0 flow.old prices.old }
     requires few { length flow.old ≤ 1024 }
     requires marks { length marks.old ≡ (N.meaning net.now).nodes }
-    ensures ended { Ended N.Cost.CostKind.kind (N.meaning net.now).nodes (shown (N.meaning net.now)) flow.old (length flow.old) budget flow.new prices.new marks.old marks.new result.end }
-    ensures total { result.total ≡ total_of (sums N.Cost.CostKind.kind) (shown (N.meaning net.now)) flow.new }
+    ensures ended { Ended N.Cost.CostKind.kind (N.meaning net.now).nodes (shown (N.meaning net.now)) flow.old (length flow.old) budget flow.new prices.new marks.old marks.new (laps_of result) }
+    ensures total { IfOk result (λ f. f.total ≡ total_of (sums N.Cost.CostKind.kind) (shown (N.meaning net.now)) flow.new) }
 {
-    let end = seek(net, flow, prices, marks, budget);
-    Found {
-        end,
+    let laps = seek(net, flow, prices, marks, budget)?;
+    Ok(Found {
+        laps,
         total: total(net, flow),
-    }
+    })
 }
 
 // Searches for a least-cost flow with the imbalances of the flow found, by at most that many laps.
@@ -104,32 +99,28 @@ pub fn settle<N: Network>(
     ensures settles { Settled N.Cost.CostKind.kind (N.meaning net.now) budget (tables flow.old needs.now prices.old marks.old) result (tables flow.new needs.now prices.new marks.new) }
     ensures words { Worded N.Cost.CostKind.kind (N.meaning net.now) budget (tables flow.old needs.now prices.old marks.old) result (tables flow.new needs.now prices.new marks.new) }
 {
-    if let Some(stop) = first_stop(net, flow, needs, prices.len(), marks.len()) {
-        return Err(stop);
-    }
+    first_stop(net, flow, needs, prices.len(), marks.len())?;
     let most = (prices.len() as u64 - 1) * largest_cost(net);
     read_prices(prices, most);
     clear(marks);
-    let saved = save(flow);
-    let mut guard = Restore {
-        flow,
-        saved,
-        committed: false,
-    };
+    let saved = Some(save(flow));
+    let mut guard = Restore { flow, saved };
     let found = search(net, guard.flow, prices, marks, budget);
     tidy(net, prices);
-    match found.end {
-        End::Cut => Ok(Answer::None),
-        End::Paused(laps) => {
-            guard.committed = true;
-            Ok(Answer::Paused { laps })
-        }
-        End::Kilter(laps) => {
-            guard.committed = true;
+    match found {
+        Ok(found) => {
+            guard.saved = None;
             Ok(Answer::Least {
                 total: found.total,
-                laps,
+                laps: found.laps,
             })
         }
+        Err(halt) => match halt {
+            Halt::Cut => Ok(Answer::None),
+            Halt::Paused(laps) => {
+                guard.saved = None;
+                Ok(Answer::Paused { laps })
+            }
+        },
     }
 }

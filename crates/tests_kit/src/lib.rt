@@ -37,10 +37,7 @@ pub fn triangle() -> [Row<Plain>; 4] {
 }
 
 pub fn bounds(lo: i32, hi: i32) -> Result<Bounds, Fail> {
-    let Ok(b) = Bounds::new(lo, hi) else {
-        return Err(Fail::new("no such bounds"));
-    };
-    Ok(b)
+    Ok(Bounds::new(lo, hi)?)
 }
 
 // Lets a ring go that has to be empty. One with tags left cannot be let go: a test that is about to fail keeps it for ever.
@@ -76,44 +73,26 @@ pub fn run_all<N: Network>(
         net, flow, needs, prices, marks, &mut tags, offers, calls, outcomes,
     );
     close(tags)?;
-    match made {
-        Ok(made) => Ok(made),
-        Err(_) => Err(Fail::new("not opened")),
-    }
+    Ok(made?)
 }
 
 // The outcome is least with that total; the laps are told apart only where they are sure.
 pub fn is_least(o: Outcome<Plain>, units: i64) -> bool {
-    match o {
-        Outcome::Settled(Answer::Least { total, laps: _ }) => total.units == units,
-        _ => false,
-    }
+    matches!(o, Outcome::Settled(Answer::Least { total, laps: _ }) if total.units == units)
 }
 
 pub fn is_none(o: Outcome<Plain>) -> bool {
-    match o {
-        Outcome::Settled(Answer::None) => true,
-        _ => false,
-    }
+    o == Outcome::Settled(Answer::None)
 }
 
-pub fn is_paused(o: Outcome<Plain>, by: u32) -> bool {
-    match o {
-        Outcome::Settled(Answer::Paused { laps }) => laps == by,
-        _ => false,
-    }
+pub fn is_paused(o: Outcome<Plain>, laps: u32) -> bool {
+    o == Outcome::Settled(Answer::Paused { laps })
 }
 
 pub fn is_done(o: Outcome<Plain>) -> bool {
-    match o {
-        Outcome::Done => true,
-        _ => false,
-    }
+    o == Outcome::Done
 }
 
 pub fn is_refused(o: Outcome<Plain>, number: u8, place: usize) -> bool {
-    match o {
-        Outcome::Refused(stop) => stop.number() == number && stop.place() == place,
-        _ => false,
-    }
+    matches!(o, Outcome::Refused(stop) if stop.number() == number && stop.place() == place)
 }

@@ -1,4 +1,5 @@
-use Rattle.std.proofs.Common.{◌≡◌, ℕ, ◌≤◌, length, sym, refl, ◌∙◌, subst, arith}
+use Rattle.reach.specs.Rounds.{EndsWith}
+use Rattle.std.proofs.Common.{Err, ap, ◌≡◌, ℕ, ◌≤◌, length, sym, refl, ◌∙◌, subst, arith}
 use Rattle.networks.specs.Nets.{shown}
 use Rattle.flows.specs.Fits.{Fitting}
 use Rattle.labels.specs.Ways.{Chosen}
@@ -68,12 +69,12 @@ returns-then-not-may_lap g c =
     record {
       ready = after;
       eased = eased;
-      ends = (refl, at_hand K laws arcs flow rs (subst (λ z. Fitting K z arcs) (sym after.priced) after.fitting) after.long after.small step c.reach.new.labels want.node.0 c.in-Reached.ensures.ends, refl);
+      ends = (refl, at_hand K laws arcs flow rs (subst (λ z. Fitting K z arcs) (sym after.priced) after.fitting) after.long after.small step c.reach.new.labels want.node.0 c.in-Ok.ensures.ends, refl);
       spends = ((λ e. absurd (let z : ◌≡◌ {A = ℕ} 0 1 = cc in omega arith)), (λ _. c.if-not-may_lap.true));
     }
 
-pub returns-in-Kilter : goal.returns-in-Kilter
-returns-in-Kilter g c =
+pub returns-in-Err-Kilter : goal.returns-in-Err-Kilter
+returns-in-Err-Kilter g c =
     let K = g.N.Cost.CostKind.kind in
     let laws = g.met.N.Cost.CostKind.lawful in
     let n = g.N.Network.meaning c.args.net.now in
@@ -93,15 +94,15 @@ returns-in-Kilter g c =
     record {
       ready = after;
       eased = eased;
-      ends = (refl, subst (KilterAt K arcs flow rs) want.over c.in-Kilter.ensures.ends, refl);
+      ends = (refl, subst (KilterAt K arcs flow rs) want.over (subst (EndsWith K arcs flow rs step c.reach.new.labels) (c.in-Err-Kilter.is ∙ ap Err c.in-Err-Kilter.field-0-is) c.reach.ensures.ends), refl);
       spends = ((λ e. absurd (let z : ◌≡◌ {A = ℕ} 0 1 = cc in omega arith)), (λ e. absurd (let z : ◌≡◌ {A = ℕ} 0 1 = cc in omega arith)));
     }
 
 pub mark-requires : goal.mark-requires
 mark-requires g c = omega (arith, c.requires.marks, c.requires.ready.few)
 
-pub returns-in-Cut : goal.returns-in-Cut
-returns-in-Cut g c =
+pub returns-in-Err-Cut : goal.returns-in-Err-Cut
+returns-in-Err-Cut g c =
     let K = g.N.Cost.CostKind.kind in
     let laws = g.met.N.Cost.CostKind.lawful in
     let n = g.N.Network.meaning c.args.net.now in
@@ -121,7 +122,7 @@ returns-in-Cut g c =
     record {
       ready = after;
       eased = eased;
-      ends = (refl, cut_marked K N arcs flow after.fitting after.long c.reach.new.labels c.mark.new.marks (c.mark.auto.marks ∙ c.requires.marks) c.mark.ensures step want.chosen.moving.0 c.in-Cut.ensures.ends);
+      ends = (refl, cut_marked K N arcs flow after.fitting after.long c.reach.new.labels c.mark.new.marks (c.mark.auto.marks ∙ c.requires.marks) c.mark.ensures step want.chosen.moving.0 (subst (EndsWith K arcs flow rs step c.reach.new.labels) (c.in-Err-Cut.is ∙ ap Err c.in-Err-Cut.field-0-is) c.reach.ensures.ends));
       spends = ((λ e. absurd (let z : ◌≡◌ {A = ℕ} 0 1 = cc in omega arith)), (λ e. absurd (let z : ◌≡◌ {A = ℕ} 0 1 = cc in omega arith)));
     }
 
@@ -143,7 +144,7 @@ lap-requires g c =
     let rep = c.reach.ensures.prices in
     let eased = eased_both K arcs flow ps qs rs c.tame.ensures.eased rep.eased in
     let after = repriced_ready K N arcs flow qs rs ready rep in
-    let found = c.in-Reached.ensures.ends in
+    let found = c.in-Ok.ensures.ends in
     record {
       fitting = subst (λ z. Fitting K z arcs) (sym after.priced) after.fitting;
       moderate = λ k h. omega (arith, after.bounded k h);

@@ -1,7 +1,8 @@
 use Rattle.std.proofs.Common.{◌≡◌, ℕ, ◌+◌, ◌<◌, ◌≤◌, length, sym, refl, ap, ◌∙◌, subst, arith, rules}
 use Rattle.std.proofs.lemmas.Bool.{ltb-true, ltb-false}
 use Rattle.networks.specs.Nets.{shown}
-use Rattle.search.specs.Going.{Ready, Going, LapAtHand, CutMarked}
+use Rattle.search.specs.Ready.{Ready}
+use Rattle.search.specs.Going.{Going, LapAtHand, CutMarked}
 use Rattle.search.proofs.Steps.{going_repriced, going_on, going_lapped, going_none}
 use Rattle.search.proofs.seek.bring_in.Goals as goal
 

@@ -1,6 +1,7 @@
 use Rattle.std.proofs.Common.{◌≡◌, ◌-◌, ◌≤◌, List, length, ℤ}
 use Rattle.networks.specs.Nets.{shown}
-use Rattle.search.specs.Going.{Ready, Going}
+use Rattle.search.specs.Ready.{Ready}
+use Rattle.search.specs.Going.{Going}
 use Rattle.search.proofs.seek.bring_in.Given as goal
 
 abbrev pub invariant-loop-laps : goal.invariant-loop-laps
