@@ -1,17 +1,19 @@
 -- What a closing answers and leaves, from what the network below does.
-use Rattle.std.proofs.Common.{◌≡◌, ℕ, ◌+◌, ◌-◌, ◌<◌, ◌≤◌, Bool, true, false, cond, ◌||◌, eqb, ltb, leb, List, [], ◌∷◌, ◌++◌, map, length, get_or, set, ℤ, Some, None, Ok, Option, sym, refl, ap, ◌∙◌, ap₂, arith}
-use Rattle.std.specs.List.{slice_get}
+use Rattle.std.proofs.Common.{◌≡◌, ℕ, ◌+◌, ◌-◌, ◌<◌, ◌≤◌, Bool, true, false, cond, ◌||◌, eqb, ltb, leb, List, [], ◌∷◌, ◌++◌, map, length, get_or, set, ℤ, Some, None, Option, sym, refl, ap, ◌∙◌, ap₂, subst, arith}
+use Rattle.std.specs.List.{slice_get, refill}
 use Rattle.std.specs.Option.{option_map}
-use Rattle.std.proofs.lemmas.List.{length-map, length-append, map-set, set-append_left, set_at}
-use Rattle.std.proofs.lemmas.Option.{slice_get_read, slice_get_past}
+use Rattle.std.proofs.lemmas.List.{length-map, length-set, length-append, map-set, set-append_left, set_at}
+use Rattle.std.proofs.lemmas.Option.{slice_get-get_or, slice_get_past}
 use Rattle.std.proofs.lemmas.Bool.{leb-true, leb-false, le-leb, lt-leb}
+use Rattle.arrayvec.proofs.ArrayVecLemmas.{items-with_items}
 use Rattle.networks.specs.declared.network.Arc.{Arc}
 use Rattle.networks.specs.Limits.{most_nodes, most_arcs, cost_limit}
 use Rattle.networks.specs.Answers.{Told, answer, unless}
 use Rattle.networks.specs.Nets.{Lock, Net, numbered, replaced, shown_arc, arc_at, held_stop, rebound_stop, with_bounds, rebounded, cost_stop, recost_stop, with_cost, recosted, lock_at, relocked, line_stop, take_out_stop, relined, taken, back_stop, hand_back_stop, handed_back}
 use Rattle.layers.specs.declared.entry.Span.{Span}
 use Rattle.layers.specs.declared.entry.Entry.{Entry}
-use Rattle.layers.specs.Closings.{entry_arc, return_arc, within, closed_net, closing_stop, no_net, closing_net, is_lower}
+use Rattle.layers.specs.declared.closing.Part.{Part}
+use Rattle.layers.specs.Closings.{entry_arc, return_arc, within, closed_net, closing_stop, no_net, closing_net, is_lower, Lies}
 use Rattle.layers.proofs.Joined.{item_at, nth_left, nth_right, nth_map, numbered_left, numbered_right, length_replaced, replaced_left, replaced_right}
 use Rattle.layers.proofs.Reach.{is_out_lower, line_lower, back_lower, is_out_upper, line_upper, back_upper, lock_through, with_through}
 
@@ -19,10 +21,9 @@ use Rattle.layers.proofs.Reach.{is_out_lower, line_lower, back_lower, is_out_upp
 pub due : {X : Type 0} (x : X) (s z : Option Told) → s ≡ z → answer s x ≡ answer z x
 due x s z e = ap (λ o. answer o x) e
 
--- a check that passed
-pub passed : (s : Option Told) → Ok tt ≡ answer {X = Unit {0}} s tt → s ≡ None
-passed None h = refl
-passed (Some s) h = absurd (let z : ◌≡◌ {A = ℕ} 0 1 = cc in omega arith)
+-- where an arc lies that is there
+pub lies : {C : Type 0} (n : Net C) (es : List Entry) (a : ℕ) {o : Option Part} {p : Part} → o ≡ Some p → Lies n es a o → Lies n es a (Some p)
+lies n es a e h = subst (Lies n es a) e h
 
 past_unless : {X Y : Type 0} (F : X → Y) (s : Option Told) (x y : X) → F (unless s x y) ≡ unless s (F x) (F y)
 past_unless F None x y = refl
@@ -39,6 +40,12 @@ amended n a f = record { nodes = n.nodes; arcs = replaced n.arcs a (option_map f
 -- an entry with other bounds
 abbrev pub bound_entry : Span → Entry → Entry
 bound_entry b e = record { node = e.node; span = b; side = e.side }
+
+-- an entry of the list is written with other bounds
+pub put_back : (es xs : List Entry) (i : ℕ) (b : Span) (y : Entry) → xs ≡ es → refill (length es) es (set xs i (bound_entry b (get_or xs i y))) ≡ set es i (bound_entry b (get_or es i y))
+put_back es xs i b y e =
+    let w = bound_entry b (get_or es i y) in
+    ap (λ zs. refill (length es) es (set zs i (bound_entry b (get_or zs i y)))) e ∙ items-with_items (record { items = es }) (set es i w) (length-set es i w)
 
 module _ {C : Type 0} (n : Net C) (zero : C) (es : List Entry) (b : Span) (c : C) where
   abbrev net : Net C
@@ -117,14 +124,22 @@ module _ {C : Type 0} (n : Net C) (zero : C) (es : List Entry) (b : Span) (c : C
 
     -- ---- an entry
 
-    module _ (a i : ℕ) (x : Entry) (l : i < length es) (h : a ≡ count + (i + 1)) (is : x ≡ get_or es i x) where
+    module _ (a i : ℕ) (l : i < length es) (h : a ≡ count + (i + 1)) (y : Entry) where
+      -- the entry, as it is read
+      abbrev x : Entry
+      x = get_or es i y
+
       own_entry : slice_get own i ≡ Some (as_arc x)
       own_entry =
           let m = length-map es as_arc in
-          nth_left (map as_arc es) _ i (omega (arith, m)) ∙ nth_map as_arc es i ∙ ap (option_map as_arc) (slice_get_read es (length es) i x refl l is)
+          nth_left (map as_arc es) _ i (omega (arith, m)) ∙ nth_map as_arc es i ∙ ap (option_map as_arc) (slice_get-get_or es i y l)
 
       pub arc_entry : Some (as_arc x) ≡ arc_at net a
       arc_entry = sym own_entry ∙ arc_upper a i h
+
+      -- the same, made of what was read
+      pub arc_read : (k : ℕ) (z : C) (xs : List Entry) → k ≡ n.nodes → z ≡ zero → xs ≡ es → Some (entry_arc k z (get_or xs i y)) ≡ arc_at net a
+      arc_read k z xs p q same = ap₂ (λ j w. Some (entry_arc j w (get_or xs i y))) p q ∙ ap (λ zs. Some (as_arc (get_or zs i y))) same ∙ arc_entry
 
       pub rebound_entry : (d : Span) → (None ≡ rebound_stop net a) × (closing_net n zero (set es i (bound_entry d x)) b c ≡ rebounded net a d.lo d.hi)
       rebound_entry d =
@@ -138,8 +153,7 @@ module _ {C : Type 0} (n : Net C) (zero : C) (es : List Entry) (b : Span) (c : C
 
     pub recost_entry : (a i : ℕ) (l : i < length es) (h : a ≡ count + (i + 1)) (size : C → ℕ) (d : C) → (Some (10, a) ≡ recost_stop size net a d) × (net ≡ recosted size net a d)
     recost_entry a i l h size d =
-        let x = item_at es i l in
-        let s = ap (cost_stop size a d) (arc_entry a i x.0 l h x.1) in
+        let s = ap (cost_stop size a d) (arc_entry a i l h (item_at es i l).0) in
         (s, ap (λ o. unless o net (amended net a (with_cost d))) s)
 
     -- ---- the return arc

@@ -1,5 +1,5 @@
 -- The network that a closing over another stands for.
-use Rattle.std.specs.Prelude.{◌≡◌, ℕ, ◌+◌, ◌<◌, ◌≤◌, min, Bool, true, false, cond, ◌||◌, List, [], ◌∷◌, ◌++◌, map, length, take, Some, None, Option, ◌==◌, nat_le, nat_lt}
+use Rattle.std.specs.Prelude.{◌≡◌, ℕ, ◌+◌, ◌<◌, ◌≤◌, min, Bool, true, false, cond, ◌||◌, List, [], ◌∷◌, ◌++◌, map, length, Some, None, Option, ◌==◌, nat_le, nat_lt}
 use Rattle.networks.specs.declared.network.Arc.{Arc}
 use Rattle.networks.specs.Limits.{most_nodes, most_arcs}
 use Rattle.networks.specs.Answers.{Told, unless}
@@ -8,17 +8,12 @@ use Rattle.layers.specs.declared.entry.Side.{Side}
 use Rattle.layers.specs.declared.entry.Side.TheVariants.{Supply, Demand}
 use Rattle.layers.specs.declared.entry.Span.{Span}
 use Rattle.layers.specs.declared.entry.Entry.{Entry}
-use Rattle.layers.specs.declared.entries.Entries.{Entries}
 use Rattle.layers.specs.declared.closing.Closing.{Closing}
 use Rattle.layers.specs.declared.closing.Part.{Part}
-use Rattle.layers.specs.declared.closing.Part.TheVariants.{Lower, Own, Back, Nowhere}
+use Rattle.layers.specs.declared.closing.Part.TheVariants.{Lower, Own, Back}
 
 abbrev pub most_entries : ℕ
 most_entries = 32
-
--- the entries that were added, in their order
-abbrev pub entries_of : Entries → List Entry
-entries_of t = take t.count t.rows
 
 -- over N nodes the sink is N + 1 and the source N + 2: a supply comes from the source, a demand goes to the sink
 abbrev pub ends : ℕ → Side → ℕ → ℕ × ℕ
@@ -68,17 +63,21 @@ added n es e = unless (entry_stop n es e.node) es (es ++ e ∷ [])
 -- what a closing keeps: the network below, the entries, and the bounds and cost of the return arc
 pub record Keeps {N C : Type 0} (s : Closing N C) (below : N) (es : List Entry) (b : Span) (c : C) : Type 0 where
   pub lower : s.below ≡ below
-  pub listed : entries_of s.entries ≡ es
+  pub listed : s.entries.items ≡ es
   pub span : s.span ≡ b
   pub cost : s.cost ≡ c
+
+-- a closing can stand over a network
+abbrev pub is_fit : {C : Type 0} → Net C → Bool
+is_fit n = unless (closing_stop n) false true
 
 -- arc a is one of those below
 abbrev pub is_lower : {C : Type 0} → Net C → ℕ → Bool
 is_lower n a = unless (closing_stop n) false (nat_le a (length n.arcs))
 
--- where arc a lies
-abbrev pub Lies : {C : Type 0} → Net C → List Entry → ℕ → Part → Type 0
-Lies n es a Lower = (closing_stop n ≡ None) × (a ≤ length n.arcs)
-Lies n es a (Own i) = (closing_stop n ≡ None) × ((i < length es) × (a ≡ length n.arcs + (i + 1)))
-Lies n es a Back = (closing_stop n ≡ None) × (a ≡ length n.arcs + (length es + 1))
-Lies n es a Nowhere = closing_stop n ≡ None → length n.arcs + (length es + 1) < a
+-- where arc a lies, if there is one
+abbrev pub Lies : {C : Type 0} → Net C → List Entry → ℕ → Option Part → Type 0
+Lies n es a (Some Lower) = (closing_stop n ≡ None) × (a ≤ length n.arcs)
+Lies n es a (Some (Own i)) = (closing_stop n ≡ None) × ((i < length es) × (a ≡ length n.arcs + (i + 1)))
+Lies n es a (Some Back) = (closing_stop n ≡ None) × (a ≡ length n.arcs + (length es + 1))
+Lies n es a None = closing_stop n ≡ None → length n.arcs + (length es + 1) < a

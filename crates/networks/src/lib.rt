@@ -15,6 +15,7 @@
 #![tactic(auto)]
 
 mod bounds;
+mod limits;
 mod lockout;
 mod network;
 mod ring;
@@ -23,6 +24,7 @@ mod tags;
 mod trying;
 
 pub use bounds::Bounds;
+pub use limits::{COST_LIMIT, MOST_ARCS, MOST_NODES};
 pub use lockout::Lockout;
 pub use network::{Arc, Network};
 pub use ring::TagRing;
