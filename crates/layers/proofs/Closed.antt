@@ -12,6 +12,7 @@ use Rattle.networks.specs.Answers.{Told, answer, unless}
 use Rattle.networks.specs.Nets.{Lock, Net, numbered, replaced, shown_arc, arc_at, held_stop, rebound_stop, with_bounds, rebounded, cost_stop, recost_stop, with_cost, recosted, lock_at, relocked, line_stop, take_out_stop, relined, taken, back_stop, hand_back_stop, handed_back}
 use Rattle.layers.specs.declared.entry.Span.{Span}
 use Rattle.layers.specs.declared.entry.Entry.{Entry}
+use Rattle.layers.specs.declared.closing.Closing.{Closing}
 use Rattle.layers.specs.declared.closing.Part.{Part}
 use Rattle.layers.specs.Closings.{entry_arc, return_arc, within, closed_net, closing_stop, no_net, closing_net, is_lower, Lies}
 use Rattle.layers.proofs.Joined.{item_at, nth_left, nth_right, nth_map, numbered_left, numbered_right, length_replaced, replaced_left, replaced_right}
@@ -20,10 +21,6 @@ use Rattle.layers.proofs.Reach.{is_out_lower, line_lower, back_lower, is_out_upp
 -- the answer that is due for a stop
 pub due : {X : Type 0} (x : X) (s z : Option Told) → s ≡ z → answer s x ≡ answer z x
 due x s z e = ap (λ o. answer o x) e
-
--- where an arc lies that is there
-pub lies : {C : Type 0} (n : Net C) (es : List Entry) (a : ℕ) {o : Option Part} {p : Part} → o ≡ Some p → Lies n es a o → Lies n es a (Some p)
-lies n es a e h = subst (Lies n es a) e h
 
 past_unless : {X Y : Type 0} (F : X → Y) (s : Option Told) (x y : X) → F (unless s x y) ≡ unless s (F x) (F y)
 past_unless F None x y = refl
@@ -38,16 +35,22 @@ abbrev amended : {C : Type 0} → Net C → ℕ → (Arc C → Arc C) → Net C
 amended n a f = record { nodes = n.nodes; arcs = replaced n.arcs a (option_map f (numbered n.arcs a)); locks = n.locks }
 
 -- an entry with other bounds
-abbrev pub bound_entry : Span → Entry → Entry
+abbrev bound_entry : Span → Entry → Entry
 bound_entry b e = record { node = e.node; span = b; side = e.side }
 
--- an entry of the list is written with other bounds
-pub put_back : (es xs : List Entry) (i : ℕ) (b : Span) (y : Entry) → xs ≡ es → refill (length es) es (set xs i (bound_entry b (get_or xs i y))) ≡ set es i (bound_entry b (get_or es i y))
-put_back es xs i b y e =
-    let w = bound_entry b (get_or es i y) in
-    ap (λ zs. refill (length es) es (set zs i (bound_entry b (get_or zs i y)))) e ∙ items-with_items (record { items = es }) (set es i w) (length-set es i w)
+module _ {N C : Type 0} (meaning : N → Net C) (zero : C) (over : Closing N C) where
+  abbrev n : Net C
+  n = meaning over.below
 
-module _ {C : Type 0} (n : Net C) (zero : C) (es : List Entry) (b : Span) (c : C) where
+  abbrev es : List Entry
+  es = over.entries.items
+
+  abbrev b : Span
+  b = over.span
+
+  abbrev c : C
+  c = over.cost
+
   abbrev net : Net C
   net = closing_net n zero es b c
 
@@ -63,6 +66,10 @@ module _ {C : Type 0} (n : Net C) (zero : C) (es : List Entry) (b : Span) (c : C
   abbrev own : List (Arc C)
   own = map as_arc es ++ return_arc n.nodes b c ∷ []
 
+  -- where an arc lies that is there
+  pub lies : (a : ℕ) {o : Option Part} {p : Part} → o ≡ Some p → Lies n es a o → Lies n es a (Some p)
+  lies a e h = subst (Lies n es a) e h
+
   -- ---- how many arcs
 
   own_length : length own ≡ length es + 1
@@ -71,12 +78,6 @@ module _ {C : Type 0} (n : Net C) (zero : C) (es : List Entry) (b : Span) (c : C
   module _ (e : closing_stop n ≡ None) where
     fit : closed ≡ net
     fit = sym (ap (λ s. unless s no_net closed) e)
-
-    pub arcs_are : count + length es + 1 ≡ length net.arcs
-    arcs_are = let l = length-append n.arcs own in let m : count + length es + 1 ≡ length closed.arcs = omega (arith, l, own_length) in m ∙ ap (λ m. length m.arcs) fit
-
-    pub locks_are : length n.locks ≡ length net.locks
-    locks_are = sym (length-map n.locks (within count)) ∙ ap (λ m. length m.locks) fit
 
     -- ---- arcs below
 
@@ -141,15 +142,21 @@ module _ {C : Type 0} (n : Net C) (zero : C) (es : List Entry) (b : Span) (c : C
       pub arc_read : (k : ℕ) (z : C) (xs : List Entry) → k ≡ n.nodes → z ≡ zero → xs ≡ es → Some (entry_arc k z (get_or xs i y)) ≡ arc_at net a
       arc_read k z xs p q same = ap₂ (λ j w. Some (entry_arc j w (get_or xs i y))) p q ∙ ap (λ zs. Some (as_arc (get_or zs i y))) same ∙ arc_entry
 
-      pub rebound_entry : (d : Span) → (None ≡ rebound_stop net a) × (closing_net n zero (set es i (bound_entry d x)) b c ≡ rebounded net a d.lo d.hi)
-      rebound_entry d =
-          let f : Arc C → Arc C = with_bounds d.lo d.hi in
-          let m = length-map es as_arc in
-          let k : i < length (map as_arc es) = omega (arith, m) in
-          let put : map as_arc (set es i (bound_entry d x)) ++ return_arc n.nodes b c ∷ [] ≡ set own i (f (as_arc x)) = ap (λ zs. zs ++ return_arc n.nodes b c ∷ []) (map-set as_arc es i (bound_entry d x)) ∙ sym (set-append_left (map as_arc es) _ i (f (as_arc x)) k) in (
-            ap (held_stop a) arc_entry,
-            ap (λ s. unless s no_net (closed_net n zero (set es i (bound_entry d x)) b c)) e ∙ ap (λ (zs : List (Arc C)). record { nodes = n.nodes + 2; arcs = n.arcs ++ zs; locks = map (within count) n.locks }) put ∙ amended_upper a i h f (as_arc x) own_entry ∙ ap (λ o. unless (held_stop a o) net (amended net a f)) arc_entry,
-          )
+      -- the entry, written with other bounds in a list as it was read
+      module _ (xs : List Entry) (same : xs ≡ es) (d : Span) (lo hi : ℤ) (bounds : d ≡ record { lo = lo; hi = hi }) where
+        put_back : refill (length es) es (set xs i (bound_entry d (get_or xs i y))) ≡ set es i (bound_entry d x)
+        put_back = ap (λ zs. refill (length es) es (set zs i (bound_entry d (get_or zs i y)))) same ∙ items-with_items (record { items = es }) (set es i (bound_entry d x)) (length-set es i (bound_entry d x))
+
+        rebound_is : closing_net n zero (set es i (bound_entry d x)) b c ≡ rebounded net a d.lo d.hi
+        rebound_is =
+            let f : Arc C → Arc C = with_bounds d.lo d.hi in
+            let m = length-map es as_arc in
+            let k : i < length (map as_arc es) = omega (arith, m) in
+            let put : map as_arc (set es i (bound_entry d x)) ++ return_arc n.nodes b c ∷ [] ≡ set own i (f (as_arc x)) = ap (λ zs. zs ++ return_arc n.nodes b c ∷ []) (map-set as_arc es i (bound_entry d x)) ∙ sym (set-append_left (map as_arc es) _ i (f (as_arc x)) k) in
+            ap (λ s. unless s no_net (closed_net n zero (set es i (bound_entry d x)) b c)) e ∙ ap (λ (zs : List (Arc C)). record { nodes = n.nodes + 2; arcs = n.arcs ++ zs; locks = map (within count) n.locks }) put ∙ amended_upper a i h f (as_arc x) own_entry ∙ ap (λ o. unless (held_stop a o) net (amended net a f)) arc_entry
+
+        pub rebound_entry : (None ≡ rebound_stop net a) × (closing_net n zero (refill (length es) es (set xs i (bound_entry d (get_or xs i y)))) b c ≡ rebounded net a lo hi)
+        rebound_entry = (ap (held_stop a) arc_entry, ap (λ zs. closing_net n zero zs b c) put_back ∙ rebound_is ∙ ap (λ (w : Span). rebounded net a w.lo w.hi) bounds)
 
     pub recost_entry : (a i : ℕ) (l : i < length es) (h : a ≡ count + (i + 1)) (size : C → ℕ) (d : C) → (Some (10, a) ≡ recost_stop size net a d) × (net ≡ recosted size net a d)
     recost_entry a i l h size d =
@@ -171,10 +178,10 @@ module _ {C : Type 0} (n : Net C) (zero : C) (es : List Entry) (b : Span) (c : C
           let put : map as_arc es ++ return_arc n.nodes d c' ∷ [] ≡ set own (length es) (f (return_arc n.nodes b c)) = ap (λ x. map as_arc es ++ x ∷ []) q ∙ sym (set_at (map as_arc es) (return_arc n.nodes b c) [] (f (return_arc n.nodes b c)) (length es) (length-map es as_arc)) in
           ap (λ s. unless s no_net (closed_net n zero es d c')) e ∙ ap (λ (zs : List (Arc C)). record { nodes = n.nodes + 2; arcs = n.arcs ++ zs; locks = map (within count) n.locks }) put ∙ amended_upper a (length es) h f _ own_return
 
-      pub rebound_return : (d : Span) → (None ≡ rebound_stop net a) × (closing_net n zero es d c ≡ rebounded net a d.lo d.hi)
-      rebound_return d =
+      pub rebound_return : (d : Span) (lo hi : ℤ) → d ≡ record { lo = lo; hi = hi } → (None ≡ rebound_stop net a) × (closing_net n zero es d c ≡ rebounded net a lo hi)
+      rebound_return d lo hi bounds =
           let f : Arc C → Arc C = with_bounds d.lo d.hi in
-          (ap (held_stop a) arc_return, amended_return f d c refl ∙ ap (λ o. unless (held_stop a o) net (amended net a f)) arc_return)
+          (ap (held_stop a) arc_return, amended_return f d c refl ∙ ap (λ o. unless (held_stop a o) net (amended net a f)) arc_return ∙ ap (λ (w : Span). rebounded net a w.lo w.hi) bounds)
 
       recost_stop_return : (size : C → ℕ) (d : C) (t : Bool) → leb (size d) cost_limit ≡ t → cond t None (Some (4, a)) ≡ recost_stop size net a d
       recost_stop_return size d t q = ap (λ o. cond o None (Some (4, a))) (sym q) ∙ ap (cost_stop size a d) arc_return

@@ -6,21 +6,18 @@ use Rattle.layers.proofs.closing.ClosingCostNetwork.arc.Goals as goal
 pub returns-in-Lower : goal.returns-in-Lower
 returns-in-Lower g c =
     let t = c.args.self.now in
-    let n = g.N.Network.meaning t.below in
-    let at = lies n t.entries.items c.args.a (ap Some c.in-Lower.is) c.in_ok-part.ensures in
-    c.arc.ensures ∙ arc_lower n g.N.Cost.CostKind.kind.zero t.entries.items t.span t.cost at.0 c.args.a at.1
+    let at = lies g.N.Network.meaning g.N.Cost.CostKind.kind.zero t c.args.a (ap Some c.in-Lower.is) c.in_ok-part.ensures in
+    c.arc.ensures ∙ arc_lower g.N.Network.meaning g.N.Cost.CostKind.kind.zero t at.0 c.args.a at.1
 
 pub returns-in-Own : goal.returns-in-Own
 returns-in-Own g c =
     let t = c.args.self.now in
-    let n = g.N.Network.meaning t.below in
-    let at = lies n t.entries.items c.args.a (ap Some c.in-Own.is) c.in_ok-part.ensures in
-    ap Some c.as_arc.ensures ∙ arc_read n g.N.Cost.CostKind.kind.zero t.entries.items t.span t.cost at.0 c.args.a c.in-Own.i at.1.0 at.1.1 _ c.nodes.result c.zero.result c.deref.result.now c.nodes.ensures c.zero.ensures c.deref.ensures.0
+    let at = lies g.N.Network.meaning g.N.Cost.CostKind.kind.zero t c.args.a (ap Some c.in-Own.is) c.in_ok-part.ensures in
+    ap Some c.as_arc.ensures ∙ arc_read g.N.Network.meaning g.N.Cost.CostKind.kind.zero t at.0 c.args.a c.in-Own.i at.1.0 at.1.1 _ c.nodes.result c.zero.result c.deref.result.now c.nodes.ensures c.zero.ensures c.deref.ensures.0
 
 pub returns-in-Back : goal.returns-in-Back
 returns-in-Back g c =
     let t = c.args.self.now in
-    let n = g.N.Network.meaning t.below in
-    let at = lies n t.entries.items c.args.a (ap Some c.in-Back.is) c.in_ok-part.ensures in
+    let at = lies g.N.Network.meaning g.N.Cost.CostKind.kind.zero t c.args.a (ap Some c.in-Back.is) c.in_ok-part.ensures in
     let is = c.return_arc.ensures ∙ ap (λ k. return_arc k t.span t.cost) c.nodes-in-Back.ensures in
-    ap Some is ∙ arc_return n g.N.Cost.CostKind.kind.zero t.entries.items t.span t.cost at.0 c.args.a at.1
+    ap Some is ∙ arc_return g.N.Network.meaning g.N.Cost.CostKind.kind.zero t at.0 c.args.a at.1
