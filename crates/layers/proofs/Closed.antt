@@ -7,10 +7,10 @@ use Rattle.std.proofs.lemmas.Option.{slice_get-get_or, slice_get_past}
 use Rattle.std.proofs.lemmas.Bool.{leb-true, leb-false, le-leb, lt-leb}
 use Rattle.arrayvec.proofs.ArrayVecLemmas.{items-with_items}
 use Rattle.networks.specs.declared.network.Arc.{Arc}
+use Rattle.networks.specs.declared.bounds.Bounds.{Bounds}
 use Rattle.networks.specs.Limits.{most_nodes, most_arcs, cost_limit}
 use Rattle.networks.specs.Answers.{Told, answer, unless}
 use Rattle.networks.specs.Nets.{Lock, Net, numbered, replaced, shown_arc, arc_at, held_stop, rebound_stop, with_bounds, rebounded, cost_stop, recost_stop, with_cost, recosted, lock_at, relocked, line_stop, take_out_stop, relined, taken, back_stop, hand_back_stop, handed_back}
-use Rattle.layers.specs.declared.entry.Span.{Span}
 use Rattle.layers.specs.declared.entry.Entry.{Entry}
 use Rattle.layers.specs.declared.closing.Closing.{Closing}
 use Rattle.layers.specs.declared.closing.Part.{Part}
@@ -35,8 +35,8 @@ abbrev amended : {C : Type 0} → Net C → ℕ → (Arc C → Arc C) → Net C
 amended n a f = record { nodes = n.nodes; arcs = replaced n.arcs a (option_map f (numbered n.arcs a)); locks = n.locks }
 
 -- an entry with other bounds
-abbrev bound_entry : Span → Entry → Entry
-bound_entry b e = record { node = e.node; span = b; side = e.side }
+abbrev bound_entry : Bounds → Entry → Entry
+bound_entry b e = record { node = e.node; bounds = b; side = e.side }
 
 module _ {N C : Type 0} (meaning : N → Net C) (zero : C) (over : Closing N C) where
   abbrev n : Net C
@@ -45,8 +45,8 @@ module _ {N C : Type 0} (meaning : N → Net C) (zero : C) (over : Closing N C) 
   abbrev es : List Entry
   es = over.entries.items
 
-  abbrev b : Span
-  b = over.span
+  abbrev b : Bounds
+  b = over.bounds
 
   abbrev c : C
   c = over.cost
@@ -143,7 +143,7 @@ module _ {N C : Type 0} (meaning : N → Net C) (zero : C) (over : Closing N C) 
       arc_read k z xs p q same = ap₂ (λ j w. Some (entry_arc j w (get_or xs i y))) p q ∙ ap (λ zs. Some (as_arc (get_or zs i y))) same ∙ arc_entry
 
       -- the entry, written with other bounds in a list as it was read
-      module _ (xs : List Entry) (same : xs ≡ es) (d : Span) (lo hi : ℤ) (bounds : d ≡ record { lo = lo; hi = hi }) where
+      module _ (xs : List Entry) (same : xs ≡ es) (d : Bounds) where
         put_back : refill (length es) es (set xs i (bound_entry d (get_or xs i y))) ≡ set es i (bound_entry d x)
         put_back = ap (λ zs. refill (length es) es (set zs i (bound_entry d (get_or zs i y)))) same ∙ items-with_items (record { items = es }) (set es i (bound_entry d x)) (length-set es i (bound_entry d x))
 
@@ -155,8 +155,8 @@ module _ {N C : Type 0} (meaning : N → Net C) (zero : C) (over : Closing N C) 
             let put : map as_arc (set es i (bound_entry d x)) ++ return_arc n.nodes b c ∷ [] ≡ set own i (f (as_arc x)) = ap (λ zs. zs ++ return_arc n.nodes b c ∷ []) (map-set as_arc es i (bound_entry d x)) ∙ sym (set-append_left (map as_arc es) _ i (f (as_arc x)) k) in
             ap (λ s. unless s no_net (closed_net n zero (set es i (bound_entry d x)) b c)) e ∙ ap (λ (zs : List (Arc C)). record { nodes = n.nodes + 2; arcs = n.arcs ++ zs; locks = map (within count) n.locks }) put ∙ amended_upper a i h f (as_arc x) own_entry ∙ ap (λ o. unless (held_stop a o) net (amended net a f)) arc_entry
 
-        pub rebound_entry : (None ≡ rebound_stop net a) × (closing_net n zero (refill (length es) es (set xs i (bound_entry d (get_or xs i y)))) b c ≡ rebounded net a lo hi)
-        rebound_entry = (ap (held_stop a) arc_entry, ap (λ zs. closing_net n zero zs b c) put_back ∙ rebound_is ∙ ap (λ (w : Span). rebounded net a w.lo w.hi) bounds)
+        pub rebound_entry : (None ≡ rebound_stop net a) × (closing_net n zero (refill (length es) es (set xs i (bound_entry d (get_or xs i y)))) b c ≡ rebounded net a d.lo d.hi)
+        rebound_entry = (ap (held_stop a) arc_entry, ap (λ zs. closing_net n zero zs b c) put_back ∙ rebound_is)
 
     pub recost_entry : (a i : ℕ) (l : i < length es) (h : a ≡ count + (i + 1)) (size : C → ℕ) (d : C) → (Some (10, a) ≡ recost_stop size net a d) × (net ≡ recosted size net a d)
     recost_entry a i l h size d =
@@ -173,15 +173,15 @@ module _ {N C : Type 0} (meaning : N → Net C) (zero : C) (over : Closing N C) 
       arc_return = sym own_return ∙ arc_upper a (length es) h
 
       -- another return arc
-      amended_return : (f : Arc C → Arc C) (d : Span) (c' : C) → return_arc n.nodes d c' ≡ f (return_arc n.nodes b c) → closing_net n zero es d c' ≡ amended net a f
+      amended_return : (f : Arc C → Arc C) (d : Bounds) (c' : C) → return_arc n.nodes d c' ≡ f (return_arc n.nodes b c) → closing_net n zero es d c' ≡ amended net a f
       amended_return f d c' q =
           let put : map as_arc es ++ return_arc n.nodes d c' ∷ [] ≡ set own (length es) (f (return_arc n.nodes b c)) = ap (λ x. map as_arc es ++ x ∷ []) q ∙ sym (set_at (map as_arc es) (return_arc n.nodes b c) [] (f (return_arc n.nodes b c)) (length es) (length-map es as_arc)) in
           ap (λ s. unless s no_net (closed_net n zero es d c')) e ∙ ap (λ (zs : List (Arc C)). record { nodes = n.nodes + 2; arcs = n.arcs ++ zs; locks = map (within count) n.locks }) put ∙ amended_upper a (length es) h f _ own_return
 
-      pub rebound_return : (d : Span) (lo hi : ℤ) → d ≡ record { lo = lo; hi = hi } → (None ≡ rebound_stop net a) × (closing_net n zero es d c ≡ rebounded net a lo hi)
-      rebound_return d lo hi bounds =
+      pub rebound_return : (d : Bounds) → (None ≡ rebound_stop net a) × (closing_net n zero es d c ≡ rebounded net a d.lo d.hi)
+      rebound_return d =
           let f : Arc C → Arc C = with_bounds d.lo d.hi in
-          (ap (held_stop a) arc_return, amended_return f d c refl ∙ ap (λ o. unless (held_stop a o) net (amended net a f)) arc_return ∙ ap (λ (w : Span). rebounded net a w.lo w.hi) bounds)
+          (ap (held_stop a) arc_return, amended_return f d c refl ∙ ap (λ o. unless (held_stop a o) net (amended net a f)) arc_return)
 
       recost_stop_return : (size : C → ℕ) (d : C) (t : Bool) → leb (size d) cost_limit ≡ t → cond t None (Some (4, a)) ≡ recost_stop size net a d
       recost_stop_return size d t q = ap (λ o. cond o None (Some (4, a))) (sym q) ∙ ap (cost_stop size a d) arc_return

@@ -3,9 +3,9 @@
 ghost use Rattle.std.specs.Prelude.{◌≡◌, ℕ, ◌≤◌, []};
 ghost use Rattle.networks.specs.Answers.{answer, said};
 ghost use Rattle.layers.specs.declared.entry.Side.TheVariants.{Supply, Demand};
-ghost use Rattle.layers.specs.Closings.{closing_stop, closing_net, entry_stop, added, is_fit as is_fit_of, is_lower as is_lower_of, Keeps, Lies};
+ghost use Rattle.layers.specs.Closings.{closing_stop, closing_net, entry_stop, added, return_arc as return_arc_of, is_fit as is_fit_of, is_lower as is_lower_of, Keeps, Lies};
 
-use crate::entry::{Entry, Side, Span};
+use crate::entry::{Entry, Side};
 use arrayvec::ArrayVec;
 use costs::CostKind;
 use networks::{Arc, Bounds, COST_LIMIT, MOST_ARCS, MOST_NODES, Network, Stop, Tag};
@@ -14,12 +14,12 @@ use std::cmp::Ordering;
 // The most entries of a closing.
 const MOST_ENTRIES: usize = 32;
 
-// The entries are in the order in which they came, and the span and the cost are those of the return arc.
+// The entries are in the order in which they came, and the bounds and the cost are those of the return arc.
 #[derive(Drop)]
 pub struct Closing<N, C> {
     below: N,
     entries: ArrayVec<Entry, MOST_ENTRIES>,
-    span: Span,
+    bounds: Bounds,
     cost: C,
 }
 
@@ -49,12 +49,12 @@ impl<N: Network> Closing<N, N::Cost> {
 
     // A closing with no entries, and with these bounds and cost for its return arc.
     pub fn new(below: N, bounds: Bounds, cost: N::Cost) -> Closing<N, N::Cost>
-        ensures { Keeps result below [] (record { lo = bounds.lo; hi = bounds.hi }) cost }
+        ensures { Keeps result below [] bounds cost }
     {
         Closing {
             below,
             entries: ArrayVec::new(),
-            span: Span::from(bounds),
+            bounds,
             cost,
         }
     }
@@ -62,11 +62,11 @@ impl<N: Network> Closing<N, N::Cost> {
     // Adds a supply at a node below: an arc from the source to it.
     pub fn supply(&mut self, node: usize, bounds: Bounds) -> Result<(), Stop>
         ensures answers { said result ≡ answer (entry_stop (N.Network.meaning self.old.below) self.old.entries.items node) tt }
-        ensures leaves { Keeps self.new self.old.below (added (N.Network.meaning self.old.below) self.old.entries.items (record { node = node; span = record { lo = bounds.lo; hi = bounds.hi }; side = Supply })) self.old.span self.old.cost }
+        ensures leaves { Keeps self.new self.old.below (added (N.Network.meaning self.old.below) self.old.entries.items (record { node = node; bounds = bounds; side = Supply })) self.old.bounds self.old.cost }
     {
         self.add(Entry {
             node,
-            span: Span::from(bounds),
+            bounds,
             side: Side::Supply,
         })
     }
@@ -74,18 +74,18 @@ impl<N: Network> Closing<N, N::Cost> {
     // Adds a demand at a node below: an arc from it to the sink.
     pub fn demand(&mut self, node: usize, bounds: Bounds) -> Result<(), Stop>
         ensures answers { said result ≡ answer (entry_stop (N.Network.meaning self.old.below) self.old.entries.items node) tt }
-        ensures leaves { Keeps self.new self.old.below (added (N.Network.meaning self.old.below) self.old.entries.items (record { node = node; span = record { lo = bounds.lo; hi = bounds.hi }; side = Demand })) self.old.span self.old.cost }
+        ensures leaves { Keeps self.new self.old.below (added (N.Network.meaning self.old.below) self.old.entries.items (record { node = node; bounds = bounds; side = Demand })) self.old.bounds self.old.cost }
     {
         self.add(Entry {
             node,
-            span: Span::from(bounds),
+            bounds,
             side: Side::Demand,
         })
     }
 
     fn add(&mut self, e: Entry) -> Result<(), Stop>
         ensures answers { said result ≡ answer (entry_stop (N.Network.meaning self.old.below) self.old.entries.items e.node) tt }
-        ensures leaves { Keeps self.new self.old.below (added (N.Network.meaning self.old.below) self.old.entries.items e) self.old.span self.old.cost }
+        ensures leaves { Keeps self.new self.old.below (added (N.Network.meaning self.old.below) self.old.entries.items e) self.old.bounds self.old.cost }
     {
         if e.node == 0 || e.node > self.below.nodes() {
             return Err(Stop::Absent(e.node));
@@ -105,6 +105,23 @@ impl<N: Network> Closing<N, N::Cost> {
         ensures { result ≡ is_fit_of (N.Network.meaning self.now.below) }
     {
         Self::check(&self.below).is_ok()
+    }
+
+    // The arc that closes the flow.
+    fn return_arc(&self) -> Arc<N::Cost>
+        requires { (N.Network.meaning self.now.below).nodes ≤ 256 }
+        ensures { result ≡ return_arc_of (N.Network.meaning self.now.below).nodes self.now.bounds self.now.cost }
+    {
+        let nodes = self.below.nodes();
+        Arc {
+            from: nodes + 1,
+            to: nodes + 2,
+            lo: self.bounds.lo(),
+            hi: self.bounds.hi(),
+            cost: self.cost,
+            held: false,
+            fixed: false,
+        }
     }
 
     // Whether arc a is one of those below.
@@ -137,7 +154,7 @@ impl<N: Network> Closing<N, N::Cost> {
 impl<N: Network> Network for Closing<N, N::Cost> {
     type Cost = N::Cost;
 
-    ghost meaning = { λ s. closing_net (N.Network.meaning s.below) N.Cost.CostKind.kind.zero s.entries.items s.span s.cost };
+    ghost meaning = { λ s. closing_net (N.Network.meaning s.below) N.Cost.CostKind.kind.zero s.entries.items s.bounds s.cost };
 
     fn nodes(&self) -> usize {
         if self.is_fit() {
@@ -166,7 +183,7 @@ impl<N: Network> Network for Closing<N, N::Cost> {
         match self.part(a)? {
             Part::Lower => self.below.arc(a),
             Part::Own(i) => Some(self.entries[i].as_arc(self.below.nodes(), N::Cost::zero())),
-            Part::Back => Some(self.span.return_arc(self.below.nodes(), self.cost)),
+            Part::Back => Some(self.return_arc()),
         }
     }
 
@@ -174,11 +191,11 @@ impl<N: Network> Network for Closing<N, N::Cost> {
         match self.part(a).ok_or(Stop::Absent(a))? {
             Part::Lower => self.below.rebound(a, b),
             Part::Own(i) => {
-                self.entries[i].span = Span::from(b);
+                self.entries[i].bounds = b;
                 Ok(())
             }
             Part::Back => {
-                self.span = Span::from(b);
+                self.bounds = b;
                 Ok(())
             }
         }

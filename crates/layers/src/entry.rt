@@ -1,7 +1,7 @@
 // An entry of a closing: a supply or a demand at a node, with its bounds.
 
 ghost use Rattle.std.specs.Prelude.{◌≡◌, ℕ, ◌≤◌};
-ghost use Rattle.layers.specs.Closings.{entry_arc, return_arc as return_arc_of};
+ghost use Rattle.layers.specs.Closings.{entry_arc};
 
 use networks::{Arc, Bounds};
 
@@ -14,48 +14,11 @@ pub enum Side {
     Demand,
 }
 
-// The numbers of a pair of bounds. A closing keeps these, since a network over lent rows that holds a
-// struct with ghost fields cannot be handed to generic code.
-#[derive(Clone, Copy, Default)]
-pub struct Span {
-    pub lo: i32,
-    pub hi: i32,
-}
-
 #[derive(Clone, Copy, Default)]
 pub struct Entry {
     pub node: usize,
-    pub span: Span,
+    pub bounds: Bounds,
     pub side: Side,
-}
-
-impl From<Bounds> for Span {
-    ghost from_gives = { λ b s. s ≡ record { lo = b.lo; hi = b.hi } };
-
-    fn from(b: Bounds) -> Span {
-        Span {
-            lo: b.lo(),
-            hi: b.hi(),
-        }
-    }
-}
-
-impl Span {
-    // The return arc over so many nodes, with these bounds.
-    pub fn return_arc<C>(self, nodes: usize, cost: C) -> Arc<C>
-        requires { nodes ≤ 256 }
-        ensures { result ≡ return_arc_of nodes self cost }
-    {
-        Arc {
-            from: nodes + 1,
-            to: nodes + 2,
-            lo: self.lo,
-            hi: self.hi,
-            cost,
-            held: false,
-            fixed: false,
-        }
-    }
 }
 
 impl Entry {
@@ -71,8 +34,8 @@ impl Entry {
         Arc {
             from,
             to,
-            lo: self.span.lo,
-            hi: self.span.hi,
+            lo: self.bounds.lo(),
+            hi: self.bounds.hi(),
             cost: zero,
             held: false,
             fixed: true,

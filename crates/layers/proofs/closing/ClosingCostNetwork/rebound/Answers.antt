@@ -15,12 +15,12 @@ pub returns-in-Own : goal.returns-in-Own
 returns-in-Own g c =
     let t = c.args.self.now in
     let at = lies g.N.Network.meaning g.N.Cost.CostKind.kind.zero t c.args.a (c.in_ok-ok_or.ensures.ok_part ∙ ap Some c.in-Own.is) c.part.ensures in
-    let r = rebound_entry g.N.Network.meaning g.N.Cost.CostKind.kind.zero t at.0 c.args.a c.in-Own.i at.1.0 at.1.1 _ c.deref_mut.result.now c.deref_mut.ensures.value c.from.result c.args.b.lo c.args.b.hi c.from.ensures in
+    let r = rebound_entry g.N.Network.meaning g.N.Cost.CostKind.kind.zero t at.0 c.args.a c.in-Own.i at.1.0 at.1.1 _ c.deref_mut.result.now c.deref_mut.ensures.value c.args.b in
     record { answers = due tt _ _ r.0; leaves = r.1 }
 
 pub returns-in-Back : goal.returns-in-Back
 returns-in-Back g c =
     let t = c.args.self.now in
     let at = lies g.N.Network.meaning g.N.Cost.CostKind.kind.zero t c.args.a (c.in_ok-ok_or.ensures.ok_part ∙ ap Some c.in-Back.is) c.part.ensures in
-    let r = rebound_return g.N.Network.meaning g.N.Cost.CostKind.kind.zero t at.0 c.args.a at.1 c.from-self.result c.args.b.lo c.args.b.hi c.from-self.ensures in
+    let r = rebound_return g.N.Network.meaning g.N.Cost.CostKind.kind.zero t at.0 c.args.a at.1 c.args.b in
     record { answers = due tt _ _ r.0; leaves = r.1 }
