@@ -7,10 +7,7 @@ use std::test::Fail;
 
 // The ends of an arc, or zeros where there is none.
 fn ends_of(chain: &HourChain<'_, Plain>, a: usize) -> (usize, usize) {
-    match chain.arc(a) {
-        Some(x) => (x.from, x.to),
-        None => (0, 0),
-    }
+    chain.arc(a).map_or((0, 0), |x| (x.from, x.to))
 }
 
 // The ends of the five arcs after this one.
@@ -45,9 +42,7 @@ fn chain_of_two_hours(rt: HostRuntime) -> Result<(), Fail> {
     let second = ends_after(&chain, 5);
     assert_eq!(rt; second, [(3, 2), (3, 2), (3, 2), (2, 3), (2, 1)]);
     assert_eq!(rt; ends_of(&chain, 11), (0, 0));
-    let Ok(b) = Bounds::new(1, 4) else {
-        return Err(Fail::new("no bounds"));
-    };
+    let b = Bounds::new(1, 4)?;
     assert_eq!(rt; chain.rebound(10, b), Ok(()));
     assert_eq!(rt; chain.recost(10, Plain { units: 5 }), Ok(()));
     let seen = chain.arc(10).ok_or("no arc")?;

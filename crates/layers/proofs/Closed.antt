@@ -1,28 +1,26 @@
 -- What a closing answers and leaves, from what the network below does.
-use Rattle.std.proofs.Common.{◌≡◌, ℕ, ◌+◌, ◌-◌, ◌<◌, ◌≤◌, Bool, true, false, cond, ◌||◌, eqb, ltb, leb, List, [], ◌∷◌, ◌++◌, map, length, get_or, set, ℤ, Some, None, Ok, Option, sym, refl, ap, ◌∙◌, ap₂, arith}
-use Rattle.std.specs.List.{slice_get}
+use Rattle.std.proofs.Common.{◌≡◌, ℕ, ◌+◌, ◌-◌, ◌<◌, ◌≤◌, Bool, true, false, cond, ◌||◌, eqb, ltb, leb, List, [], ◌∷◌, ◌++◌, map, length, get_or, set, ℤ, Some, None, Option, sym, refl, ap, ◌∙◌, ap₂, subst, arith}
+use Rattle.std.specs.List.{slice_get, refill}
 use Rattle.std.specs.Option.{option_map}
-use Rattle.std.proofs.lemmas.List.{length-map, length-append, map-set, set-append_left, set_at}
-use Rattle.std.proofs.lemmas.Option.{slice_get_read, slice_get_past}
+use Rattle.std.proofs.lemmas.List.{length-map, length-set, length-append, map-set, set-append_left, set_at}
+use Rattle.std.proofs.lemmas.Option.{slice_get-get_or, slice_get_past}
 use Rattle.std.proofs.lemmas.Bool.{leb-true, leb-false, le-leb, lt-leb}
+use Rattle.arrayvec.proofs.ArrayVecLemmas.{items-with_items}
 use Rattle.networks.specs.declared.network.Arc.{Arc}
+use Rattle.networks.specs.declared.bounds.Bounds.{Bounds}
 use Rattle.networks.specs.Limits.{most_nodes, most_arcs, cost_limit}
 use Rattle.networks.specs.Answers.{Told, answer, unless}
 use Rattle.networks.specs.Nets.{Lock, Net, numbered, replaced, shown_arc, arc_at, held_stop, rebound_stop, with_bounds, rebounded, cost_stop, recost_stop, with_cost, recosted, lock_at, relocked, line_stop, take_out_stop, relined, taken, back_stop, hand_back_stop, handed_back}
-use Rattle.layers.specs.declared.entry.Span.{Span}
 use Rattle.layers.specs.declared.entry.Entry.{Entry}
-use Rattle.layers.specs.Closings.{entry_arc, return_arc, within, closed_net, closing_stop, no_net, closing_net, is_lower}
+use Rattle.layers.specs.declared.closing.Closing.{Closing}
+use Rattle.layers.specs.declared.closing.Part.{Part}
+use Rattle.layers.specs.Closings.{entry_arc, return_arc, within, closed_net, closing_stop, no_net, closing_net, is_lower, Lies}
 use Rattle.layers.proofs.Joined.{item_at, nth_left, nth_right, nth_map, numbered_left, numbered_right, length_replaced, replaced_left, replaced_right}
 use Rattle.layers.proofs.Reach.{is_out_lower, line_lower, back_lower, is_out_upper, line_upper, back_upper, lock_through, with_through}
 
 -- the answer that is due for a stop
 pub due : {X : Type 0} (x : X) (s z : Option Told) → s ≡ z → answer s x ≡ answer z x
 due x s z e = ap (λ o. answer o x) e
-
--- a check that passed
-pub passed : (s : Option Told) → Ok tt ≡ answer {X = Unit {0}} s tt → s ≡ None
-passed None h = refl
-passed (Some s) h = absurd (let z : ◌≡◌ {A = ℕ} 0 1 = cc in omega arith)
 
 past_unless : {X Y : Type 0} (F : X → Y) (s : Option Told) (x y : X) → F (unless s x y) ≡ unless s (F x) (F y)
 past_unless F None x y = refl
@@ -37,10 +35,22 @@ abbrev amended : {C : Type 0} → Net C → ℕ → (Arc C → Arc C) → Net C
 amended n a f = record { nodes = n.nodes; arcs = replaced n.arcs a (option_map f (numbered n.arcs a)); locks = n.locks }
 
 -- an entry with other bounds
-abbrev pub bound_entry : Span → Entry → Entry
-bound_entry b e = record { node = e.node; span = b; side = e.side }
+abbrev bound_entry : Bounds → Entry → Entry
+bound_entry b e = record { node = e.node; bounds = b; side = e.side }
 
-module _ {C : Type 0} (n : Net C) (zero : C) (es : List Entry) (b : Span) (c : C) where
+module _ {N C : Type 0} (meaning : N → Net C) (zero : C) (over : Closing N C) where
+  abbrev n : Net C
+  n = meaning over.below
+
+  abbrev es : List Entry
+  es = over.entries.items
+
+  abbrev b : Bounds
+  b = over.bounds
+
+  abbrev c : C
+  c = over.cost
+
   abbrev net : Net C
   net = closing_net n zero es b c
 
@@ -56,6 +66,10 @@ module _ {C : Type 0} (n : Net C) (zero : C) (es : List Entry) (b : Span) (c : C
   abbrev own : List (Arc C)
   own = map as_arc es ++ return_arc n.nodes b c ∷ []
 
+  -- where an arc lies that is there
+  pub lies : (a : ℕ) {o : Option Part} {p : Part} → o ≡ Some p → Lies n es a o → Lies n es a (Some p)
+  lies a e h = subst (Lies n es a) e h
+
   -- ---- how many arcs
 
   own_length : length own ≡ length es + 1
@@ -64,12 +78,6 @@ module _ {C : Type 0} (n : Net C) (zero : C) (es : List Entry) (b : Span) (c : C
   module _ (e : closing_stop n ≡ None) where
     fit : closed ≡ net
     fit = sym (ap (λ s. unless s no_net closed) e)
-
-    pub arcs_are : count + length es + 1 ≡ length net.arcs
-    arcs_are = let l = length-append n.arcs own in let m : count + length es + 1 ≡ length closed.arcs = omega (arith, l, own_length) in m ∙ ap (λ m. length m.arcs) fit
-
-    pub locks_are : length n.locks ≡ length net.locks
-    locks_are = sym (length-map n.locks (within count)) ∙ ap (λ m. length m.locks) fit
 
     -- ---- arcs below
 
@@ -117,29 +125,42 @@ module _ {C : Type 0} (n : Net C) (zero : C) (es : List Entry) (b : Span) (c : C
 
     -- ---- an entry
 
-    module _ (a i : ℕ) (x : Entry) (l : i < length es) (h : a ≡ count + (i + 1)) (is : x ≡ get_or es i x) where
+    module _ (a i : ℕ) (l : i < length es) (h : a ≡ count + (i + 1)) (y : Entry) where
+      -- the entry, as it is read
+      abbrev x : Entry
+      x = get_or es i y
+
       own_entry : slice_get own i ≡ Some (as_arc x)
       own_entry =
           let m = length-map es as_arc in
-          nth_left (map as_arc es) _ i (omega (arith, m)) ∙ nth_map as_arc es i ∙ ap (option_map as_arc) (slice_get_read es (length es) i x refl l is)
+          nth_left (map as_arc es) _ i (omega (arith, m)) ∙ nth_map as_arc es i ∙ ap (option_map as_arc) (slice_get-get_or es i y l)
 
       pub arc_entry : Some (as_arc x) ≡ arc_at net a
       arc_entry = sym own_entry ∙ arc_upper a i h
 
-      pub rebound_entry : (d : Span) → (None ≡ rebound_stop net a) × (closing_net n zero (set es i (bound_entry d x)) b c ≡ rebounded net a d.lo d.hi)
-      rebound_entry d =
-          let f : Arc C → Arc C = with_bounds d.lo d.hi in
-          let m = length-map es as_arc in
-          let k : i < length (map as_arc es) = omega (arith, m) in
-          let put : map as_arc (set es i (bound_entry d x)) ++ return_arc n.nodes b c ∷ [] ≡ set own i (f (as_arc x)) = ap (λ zs. zs ++ return_arc n.nodes b c ∷ []) (map-set as_arc es i (bound_entry d x)) ∙ sym (set-append_left (map as_arc es) _ i (f (as_arc x)) k) in (
-            ap (held_stop a) arc_entry,
-            ap (λ s. unless s no_net (closed_net n zero (set es i (bound_entry d x)) b c)) e ∙ ap (λ (zs : List (Arc C)). record { nodes = n.nodes + 2; arcs = n.arcs ++ zs; locks = map (within count) n.locks }) put ∙ amended_upper a i h f (as_arc x) own_entry ∙ ap (λ o. unless (held_stop a o) net (amended net a f)) arc_entry,
-          )
+      -- the same, made of what was read
+      pub arc_read : (k : ℕ) (z : C) (xs : List Entry) → k ≡ n.nodes → z ≡ zero → xs ≡ es → Some (entry_arc k z (get_or xs i y)) ≡ arc_at net a
+      arc_read k z xs p q same = ap₂ (λ j w. Some (entry_arc j w (get_or xs i y))) p q ∙ ap (λ zs. Some (as_arc (get_or zs i y))) same ∙ arc_entry
+
+      -- the entry, written with other bounds in a list as it was read
+      module _ (xs : List Entry) (same : xs ≡ es) (d : Bounds) where
+        put_back : refill (length es) es (set xs i (bound_entry d (get_or xs i y))) ≡ set es i (bound_entry d x)
+        put_back = ap (λ zs. refill (length es) es (set zs i (bound_entry d (get_or zs i y)))) same ∙ items-with_items (record { items = es }) (set es i (bound_entry d x)) (length-set es i (bound_entry d x))
+
+        rebound_is : closing_net n zero (set es i (bound_entry d x)) b c ≡ rebounded net a d.lo d.hi
+        rebound_is =
+            let f : Arc C → Arc C = with_bounds d.lo d.hi in
+            let m = length-map es as_arc in
+            let k : i < length (map as_arc es) = omega (arith, m) in
+            let put : map as_arc (set es i (bound_entry d x)) ++ return_arc n.nodes b c ∷ [] ≡ set own i (f (as_arc x)) = ap (λ zs. zs ++ return_arc n.nodes b c ∷ []) (map-set as_arc es i (bound_entry d x)) ∙ sym (set-append_left (map as_arc es) _ i (f (as_arc x)) k) in
+            ap (λ s. unless s no_net (closed_net n zero (set es i (bound_entry d x)) b c)) e ∙ ap (λ (zs : List (Arc C)). record { nodes = n.nodes + 2; arcs = n.arcs ++ zs; locks = map (within count) n.locks }) put ∙ amended_upper a i h f (as_arc x) own_entry ∙ ap (λ o. unless (held_stop a o) net (amended net a f)) arc_entry
+
+        pub rebound_entry : (None ≡ rebound_stop net a) × (closing_net n zero (refill (length es) es (set xs i (bound_entry d (get_or xs i y)))) b c ≡ rebounded net a d.lo d.hi)
+        rebound_entry = (ap (held_stop a) arc_entry, ap (λ zs. closing_net n zero zs b c) put_back ∙ rebound_is)
 
     pub recost_entry : (a i : ℕ) (l : i < length es) (h : a ≡ count + (i + 1)) (size : C → ℕ) (d : C) → (Some (10, a) ≡ recost_stop size net a d) × (net ≡ recosted size net a d)
     recost_entry a i l h size d =
-        let x = item_at es i l in
-        let s = ap (cost_stop size a d) (arc_entry a i x.0 l h x.1) in
+        let s = ap (cost_stop size a d) (arc_entry a i l h (item_at es i l).0) in
         (s, ap (λ o. unless o net (amended net a (with_cost d))) s)
 
     -- ---- the return arc
@@ -152,12 +173,12 @@ module _ {C : Type 0} (n : Net C) (zero : C) (es : List Entry) (b : Span) (c : C
       arc_return = sym own_return ∙ arc_upper a (length es) h
 
       -- another return arc
-      amended_return : (f : Arc C → Arc C) (d : Span) (c' : C) → return_arc n.nodes d c' ≡ f (return_arc n.nodes b c) → closing_net n zero es d c' ≡ amended net a f
+      amended_return : (f : Arc C → Arc C) (d : Bounds) (c' : C) → return_arc n.nodes d c' ≡ f (return_arc n.nodes b c) → closing_net n zero es d c' ≡ amended net a f
       amended_return f d c' q =
           let put : map as_arc es ++ return_arc n.nodes d c' ∷ [] ≡ set own (length es) (f (return_arc n.nodes b c)) = ap (λ x. map as_arc es ++ x ∷ []) q ∙ sym (set_at (map as_arc es) (return_arc n.nodes b c) [] (f (return_arc n.nodes b c)) (length es) (length-map es as_arc)) in
           ap (λ s. unless s no_net (closed_net n zero es d c')) e ∙ ap (λ (zs : List (Arc C)). record { nodes = n.nodes + 2; arcs = n.arcs ++ zs; locks = map (within count) n.locks }) put ∙ amended_upper a (length es) h f _ own_return
 
-      pub rebound_return : (d : Span) → (None ≡ rebound_stop net a) × (closing_net n zero es d c ≡ rebounded net a d.lo d.hi)
+      pub rebound_return : (d : Bounds) → (None ≡ rebound_stop net a) × (closing_net n zero es d c ≡ rebounded net a d.lo d.hi)
       rebound_return d =
           let f : Arc C → Arc C = with_bounds d.lo d.hi in
           (ap (held_stop a) arc_return, amended_return f d c refl ∙ ap (λ o. unless (held_stop a o) net (amended net a f)) arc_return)

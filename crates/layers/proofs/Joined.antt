@@ -1,8 +1,8 @@
--- Two lists joined, counted from 0 and from 1; and a list cut short.
-use Rattle.std.proofs.Common.{◌≡◌, ℕ, zero, suc, ◌+◌, ◌-◌, ◌<◌, ◌≤◌, Bool, true, false, cond, eqb, List, [], ◌∷◌, ◌++◌, map, length, get_or, take, set, Some, None, Option, sym, refl, ap, ◌∙◌, arith}
+-- Two lists joined, counted from 0 and from 1.
+use Rattle.std.proofs.Common.{◌≡◌, ℕ, zero, suc, ◌+◌, ◌-◌, ◌<◌, ◌≤◌, Bool, true, false, cond, eqb, List, [], ◌∷◌, ◌++◌, map, length, get_or, set, Some, None, Option, sym, refl, ap, ◌∙◌, arith}
 use Rattle.std.specs.List.{slice_get}
 use Rattle.std.specs.Option.{option_map}
-use Rattle.std.proofs.lemmas.List.{set-append_left, set-append_right, length-set, length-take, get_or-take, get_or_default}
+use Rattle.std.proofs.lemmas.List.{set-append_left, set-append_right, length-set}
 use Rattle.std.proofs.lemmas.Bool.{cond-false, ne_eqb, eqb-false}
 use Rattle.networks.specs.Nets.{numbered, replaced}
 
@@ -60,17 +60,3 @@ replaced_right xs ys a i x e =
     let l : length xs ≤ a - 1 = omega arith in
     let p : a - 1 - length xs ≡ i = omega arith in
     set-append_right xs ys (length xs) (a - 1) x refl l ∙ ap (λ j. xs ++ set ys j x) p
-
--- ---- cut short
-
-pub in_front : {X : Type 0} (k : ℕ) (xs : List X) (i : ℕ) → i < length (take k xs) → (i < k) × (i < length xs)
-in_front k xs i h = let l = length-take k xs in (omega (arith, l), omega (arith, l))
-
-pub front_at : {X : Type 0} (k : ℕ) (xs : List X) (i : ℕ) (d : X) → i < length (take k xs) → get_or xs i d ≡ get_or (take k xs) i (get_or xs i d)
-front_at k xs i d h = let r = in_front k xs i h in get_or_default xs i d (get_or xs i d) r.1 ∙ sym (get_or-take k xs i (get_or xs i d) r.0)
-
-pub take_set_in : {X : Type 0} (k : ℕ) (xs : List X) (i : ℕ) (x : X) → i < k → take k (set xs i x) ≡ set (take k xs) i x
-take_set_in zero xs i x h = absurd (omega arith)
-take_set_in (suc k) [] i x h = refl
-take_set_in (suc k) (y ∷ ys) zero x h = refl
-take_set_in (suc k) (y ∷ ys) (suc i) x h = ap (λ zs. y ∷ zs) (take_set_in k ys i x (omega arith))

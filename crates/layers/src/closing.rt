@@ -3,19 +3,23 @@
 ghost use Rattle.std.specs.Prelude.{◌≡◌, ℕ, ◌≤◌, []};
 ghost use Rattle.networks.specs.Answers.{answer, said};
 ghost use Rattle.layers.specs.declared.entry.Side.TheVariants.{Supply, Demand};
-ghost use Rattle.layers.specs.Closings.{entries_of, entry_arc as entry_arc_of, return_arc as return_arc_of, closing_stop, closing_net, entry_stop, added, is_lower as is_lower_of, Keeps, Lies};
+ghost use Rattle.layers.specs.Closings.{closing_stop, closing_net, entry_stop, added, return_arc as return_arc_of, is_fit as is_fit_of, is_lower as is_lower_of, Keeps, Lies};
 
-use crate::entries::Entries;
-use crate::entry::{Entry, Side, Span};
+use crate::entry::{Entry, Side};
+use arrayvec::ArrayVec;
 use costs::CostKind;
-use networks::{Arc, Bounds, Network, Stop, Tag};
+use networks::{Arc, Bounds, COST_LIMIT, MOST_ARCS, MOST_NODES, Network, Stop, Tag};
+use std::cmp::Ordering;
 
-// The span and the cost are those of the return arc.
+// The most entries of a closing.
+const MOST_ENTRIES: usize = 32;
+
+// The entries are in the order in which they came, and the bounds and the cost are those of the return arc.
 #[derive(Drop)]
 pub struct Closing<N, C> {
     below: N,
-    entries: Entries,
-    span: Span,
+    entries: ArrayVec<Entry, MOST_ENTRIES>,
+    bounds: Bounds,
     cost: C,
 }
 
@@ -28,44 +32,6 @@ enum Part {
     Own(usize),
     // It is the return arc.
     Back,
-    // There is no such arc.
-    Nowhere,
-}
-
-// An entry as an arc over so many nodes.
-fn entry_arc<C>(e: Entry, nodes: usize, zero: C) -> Arc<C>
-    requires { nodes ≤ 256 }
-    ensures { result ≡ entry_arc_of nodes zero e }
-{
-    let (from, to) = match e.side {
-        Side::Supply => (nodes + 2, e.node),
-        Side::Demand => (e.node, nodes + 1),
-    };
-    Arc {
-        from,
-        to,
-        lo: e.span.lo,
-        hi: e.span.hi,
-        cost: zero,
-        held: false,
-        fixed: true,
-    }
-}
-
-// The return arc over so many nodes.
-fn return_arc<C>(nodes: usize, span: Span, cost: C) -> Arc<C>
-    requires { nodes ≤ 256 }
-    ensures { result ≡ return_arc_of nodes span cost }
-{
-    Arc {
-        from: nodes + 1,
-        to: nodes + 2,
-        lo: span.lo,
-        hi: span.hi,
-        cost,
-        held: false,
-        fixed: false,
-    }
 }
 
 impl<N: Network> Closing<N, N::Cost> {
@@ -73,11 +39,9 @@ impl<N: Network> Closing<N, N::Cost> {
     pub fn check(below: &N) -> Result<(), Stop>
         ensures { said result ≡ answer (closing_stop (N.Network.meaning below.now)) tt }
     {
+        // Two nodes and an arc come on top.
         let nodes = below.nodes();
-        if nodes == 0 || nodes > 254 {
-            return Err(Stop::Counts);
-        }
-        if below.arcs() > 1023 {
+        if nodes == 0 || nodes > MOST_NODES - 2 || below.arcs() > MOST_ARCS - 1 {
             return Err(Stop::Counts);
         }
         Ok(())
@@ -85,156 +49,167 @@ impl<N: Network> Closing<N, N::Cost> {
 
     // A closing with no entries, and with these bounds and cost for its return arc.
     pub fn new(below: N, bounds: Bounds, cost: N::Cost) -> Closing<N, N::Cost>
-        ensures { Keeps result below [] (record { lo = bounds.lo; hi = bounds.hi }) cost }
+        ensures { Keeps result below [] bounds cost }
     {
         Closing {
             below,
-            entries: Entries::new(),
-            span: Span::of(bounds),
+            entries: ArrayVec::new(),
+            bounds,
             cost,
         }
     }
 
     // Adds a supply at a node below: an arc from the source to it.
     pub fn supply(&mut self, node: usize, bounds: Bounds) -> Result<(), Stop>
-        ensures answers { said result ≡ answer (entry_stop (N.Network.meaning self.old.below) (entries_of self.old.entries) node) tt }
-        ensures leaves { Keeps self.new self.old.below (added (N.Network.meaning self.old.below) (entries_of self.old.entries) (record { node = node; span = record { lo = bounds.lo; hi = bounds.hi }; side = Supply })) self.old.span self.old.cost }
+        ensures answers { said result ≡ answer (entry_stop (N.Network.meaning self.old.below) self.old.entries.items node) tt }
+        ensures leaves { Keeps self.new self.old.below (added (N.Network.meaning self.old.below) self.old.entries.items (record { node = node; bounds = bounds; side = Supply })) self.old.bounds self.old.cost }
     {
         self.add(Entry {
             node,
-            span: Span::of(bounds),
+            bounds,
             side: Side::Supply,
         })
     }
 
     // Adds a demand at a node below: an arc from it to the sink.
     pub fn demand(&mut self, node: usize, bounds: Bounds) -> Result<(), Stop>
-        ensures answers { said result ≡ answer (entry_stop (N.Network.meaning self.old.below) (entries_of self.old.entries) node) tt }
-        ensures leaves { Keeps self.new self.old.below (added (N.Network.meaning self.old.below) (entries_of self.old.entries) (record { node = node; span = record { lo = bounds.lo; hi = bounds.hi }; side = Demand })) self.old.span self.old.cost }
+        ensures answers { said result ≡ answer (entry_stop (N.Network.meaning self.old.below) self.old.entries.items node) tt }
+        ensures leaves { Keeps self.new self.old.below (added (N.Network.meaning self.old.below) self.old.entries.items (record { node = node; bounds = bounds; side = Demand })) self.old.bounds self.old.cost }
     {
         self.add(Entry {
             node,
-            span: Span::of(bounds),
+            bounds,
             side: Side::Demand,
         })
     }
 
     fn add(&mut self, e: Entry) -> Result<(), Stop>
-        ensures answers { said result ≡ answer (entry_stop (N.Network.meaning self.old.below) (entries_of self.old.entries) e.node) tt }
-        ensures leaves { Keeps self.new self.old.below (added (N.Network.meaning self.old.below) (entries_of self.old.entries) e) self.old.span self.old.cost }
+        ensures answers { said result ≡ answer (entry_stop (N.Network.meaning self.old.below) self.old.entries.items e.node) tt }
+        ensures leaves { Keeps self.new self.old.below (added (N.Network.meaning self.old.below) self.old.entries.items e) self.old.bounds self.old.cost }
     {
         if e.node == 0 || e.node > self.below.nodes() {
             return Err(Stop::Absent(e.node));
         }
-        let count = self.entries.len();
-        if count >= 32 {
+        if self.entries.is_full() {
             return Err(Stop::Full);
         }
-        if self.below.arcs() > 1022 - count {
+        if self.below.arcs() > MOST_ARCS - 2 - self.entries.len() {
             return Err(Stop::Counts);
         }
         self.entries.push(e);
         Ok(())
     }
 
+    // Whether the network below can be closed; if not, nothing is shown.
+    fn is_fit(&self) -> bool
+        ensures { result ≡ is_fit_of (N.Network.meaning self.now.below) }
+    {
+        Self::check(&self.below).is_ok()
+    }
+
+    // The arc that closes the flow.
+    fn return_arc(&self) -> Arc<N::Cost>
+        requires { (N.Network.meaning self.now.below).nodes ≤ 256 }
+        ensures { result ≡ return_arc_of (N.Network.meaning self.now.below).nodes self.now.bounds self.now.cost }
+    {
+        let nodes = self.below.nodes();
+        Arc {
+            from: nodes + 1,
+            to: nodes + 2,
+            lo: self.bounds.lo(),
+            hi: self.bounds.hi(),
+            cost: self.cost,
+            held: false,
+            fixed: false,
+        }
+    }
+
     // Whether arc a is one of those below.
     fn is_lower(&self, a: usize) -> bool
         ensures { result ≡ is_lower_of (N.Network.meaning self.now.below) a }
     {
-        Self::check(&self.below).is_ok() && a <= self.below.arcs()
+        self.is_fit() && a <= self.below.arcs()
     }
 
-    // Where arc a lies.
-    fn part(&self, a: usize) -> Part
-        ensures { Lies (N.Network.meaning self.now.below) (entries_of self.now.entries) a result }
+    // Where arc a lies, if there is one.
+    fn part(&self, a: usize) -> Option<Part>
+        ensures { Lies (N.Network.meaning self.now.below) self.now.entries.items a result }
     {
-        if Self::check(&self.below).is_err() {
-            return Part::Nowhere;
+        if !self.is_fit() {
+            return None;
         }
         let arcs = self.below.arcs();
         if a <= arcs {
-            return Part::Lower;
+            return Some(Part::Lower);
         }
         let i = a - arcs - 1;
-        let count = self.entries.len();
-        if i < count {
-            return Part::Own(i);
+        match i.cmp(&self.entries.len()) {
+            Ordering::Less => Some(Part::Own(i)),
+            Ordering::Equal => Some(Part::Back),
+            Ordering::Greater => None,
         }
-        if i == count {
-            return Part::Back;
-        }
-        Part::Nowhere
     }
 }
 
 impl<N: Network> Network for Closing<N, N::Cost> {
     type Cost = N::Cost;
 
-    ghost meaning = { λ s. closing_net (N.Network.meaning s.below) N.Cost.CostKind.kind.zero (entries_of s.entries) s.span s.cost };
+    ghost meaning = { λ s. closing_net (N.Network.meaning s.below) N.Cost.CostKind.kind.zero s.entries.items s.bounds s.cost };
 
     fn nodes(&self) -> usize {
-        match Self::check(&self.below) {
-            Ok(()) => self.below.nodes() + 2,
-            Err(_) => 0,
+        if self.is_fit() {
+            self.below.nodes() + 2
+        } else {
+            0
         }
     }
 
     fn arcs(&self) -> usize {
-        match Self::check(&self.below) {
-            Ok(()) => self.below.arcs() + self.entries.len() + 1,
-            Err(_) => 0,
+        if !self.is_fit() {
+            return 0;
         }
+        self.below.arcs() + self.entries.len() + 1
     }
 
     fn lockouts(&self) -> usize {
-        match Self::check(&self.below) {
-            Ok(()) => self.below.lockouts(),
-            Err(_) => 0,
+        if self.is_fit() {
+            self.below.lockouts()
+        } else {
+            0
         }
     }
 
     fn arc(&self, a: usize) -> Option<Arc<N::Cost>> {
-        match self.part(a) {
+        match self.part(a)? {
             Part::Lower => self.below.arc(a),
-            Part::Own(i) => Some(entry_arc(
-                self.entries.at(i),
-                self.below.nodes(),
-                N::Cost::zero(),
-            )),
-            Part::Back => Some(return_arc(self.below.nodes(), self.span, self.cost)),
-            Part::Nowhere => None,
+            Part::Own(i) => Some(self.entries[i].as_arc(self.below.nodes(), N::Cost::zero())),
+            Part::Back => Some(self.return_arc()),
         }
     }
 
     fn rebound(&mut self, a: usize, b: Bounds) -> Result<(), Stop> {
-        match self.part(a) {
+        match self.part(a).ok_or(Stop::Absent(a))? {
             Part::Lower => self.below.rebound(a, b),
             Part::Own(i) => {
-                let mut e = self.entries.at(i);
-                e.span = Span::of(b);
-                self.entries.put(i, e);
+                self.entries[i].bounds = b;
                 Ok(())
             }
             Part::Back => {
-                self.span = Span::of(b);
+                self.bounds = b;
                 Ok(())
             }
-            Part::Nowhere => Err(Stop::Absent(a)),
         }
     }
 
     fn recost(&mut self, a: usize, c: N::Cost) -> Result<(), Stop> {
-        match self.part(a) {
+        match self.part(a).ok_or(Stop::Absent(a))? {
             Part::Lower => self.below.recost(a, c),
             Part::Own(_) => Err(Stop::Fixed(a)),
+            Part::Back if c.size() > COST_LIMIT => Err(Stop::Cost(a)),
             Part::Back => {
-                if c.size() > 1_000_000 {
-                    return Err(Stop::Cost(a));
-                }
                 self.cost = c;
                 Ok(())
             }
-            Part::Nowhere => Err(Stop::Absent(a)),
         }
     }
 

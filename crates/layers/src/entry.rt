@@ -1,39 +1,44 @@
 // An entry of a closing: a supply or a demand at a node, with its bounds.
 
-ghost use Rattle.std.specs.Prelude.{◌≡◌, ℕ};
+ghost use Rattle.std.specs.Prelude.{◌≡◌, ℕ, ◌≤◌};
+ghost use Rattle.layers.specs.Closings.{entry_arc};
 
-use networks::Bounds;
+use networks::{Arc, Bounds};
 
-#[derive(Clone, Copy)]
+#[derive(Clone, Copy, Default)]
 pub enum Side {
     // Flow that comes in at the node.
+    #[default]
     Supply,
     // Flow that leaves at the node.
     Demand,
 }
 
-// The numbers of a pair of bounds. A closing keeps these, since a network over lent rows that holds a
-// struct with an invariant cannot be handed to generic code.
-#[derive(Clone, Copy)]
-pub struct Span {
-    pub lo: i32,
-    pub hi: i32,
-}
-
-#[derive(Clone, Copy)]
+#[derive(Clone, Copy, Default)]
 pub struct Entry {
     pub node: usize,
-    pub span: Span,
+    pub bounds: Bounds,
     pub side: Side,
 }
 
-impl Span {
-    pub fn of(b: Bounds) -> Span
-        ensures { result ≡ record { lo = b.lo; hi = b.hi } }
+impl Entry {
+    // The entry as an arc over so many nodes.
+    pub fn as_arc<C>(self, nodes: usize, zero: C) -> Arc<C>
+        requires { nodes ≤ 256 }
+        ensures { result ≡ entry_arc nodes zero self }
     {
-        Span {
-            lo: b.lo(),
-            hi: b.hi(),
+        let (from, to) = match self.side {
+            Side::Supply => (nodes + 2, self.node),
+            Side::Demand => (self.node, nodes + 1),
+        };
+        Arc {
+            from,
+            to,
+            lo: self.bounds.lo(),
+            hi: self.bounds.hi(),
+            cost: zero,
+            held: false,
+            fixed: true,
         }
     }
 }

@@ -10,7 +10,6 @@
 #![tactic(auto)]
 
 mod closing;
-mod entries;
 mod entry;
 
 pub use closing::Closing;

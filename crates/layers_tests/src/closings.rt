@@ -16,10 +16,8 @@ const ROW: Row<Plain> = Row {
 
 // The ends, the upper bound, the cost, and whether the cost is fixed.
 fn seen(found: Option<Arc<Plain>>) -> Option<(usize, usize, i32, i64, bool)> {
-    match found {
-        Some(x) => Some((x.from, x.to, x.hi, x.cost.units, x.fixed)),
-        None => None,
-    }
+    let x = found?;
+    Some((x.from, x.to, x.hi, x.cost.units, x.fixed))
 }
 
 #[test]

@@ -8,10 +8,7 @@ ghost use Rattle.makes.specs.Bases.{kept_of, kept_net};
 
 use crate::place_of;
 use costs::CostKind;
-use networks::{Arc, Bounds, Network, Stop, Tag};
-
-// The largest size of an arc's cost.
-const COST_LIMIT: u64 = 1_000_000;
+use networks::{Arc, Bounds, COST_LIMIT, Network, Stop, Tag};
 
 // A row that is an arc by its number and how many nodes there are, with nothing held or fixed.
 pub trait ArcRow: Copy {

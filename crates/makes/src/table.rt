@@ -6,12 +6,7 @@ ghost use Rattle.makes.specs.Tables.{table_stop, table_net, rows_net, row_arc};
 
 use crate::kept::{ArcRow, Kept};
 use costs::CostKind;
-use networks::{Arc, Bounds, Stop};
-
-// The largest counts of nodes and of arcs.
-const MOST_NODES: usize = 256;
-
-const MOST_ARCS: usize = 1024;
+use networks::{Arc, Bounds, MOST_ARCS, MOST_NODES, Stop};
 
 // One arc: its ends, its bounds and its cost.
 #[derive(Clone, Copy)]
@@ -75,6 +70,7 @@ impl<'a, C> Kept<'a, Row<C>> {
     }
 
     // The table; one of unfit parts shows no node and no arc.
+    #[tactic(auto, using(crate::proofs::Tables::as_they_stand))]
     pub fn new(nodes: usize, arcs: usize, rows: &'a mut [Row<C>]) -> ArcTable<'a, C>
         ensures { table_net result ≡ rows_net nodes arcs rows.old }
     {

@@ -20,9 +20,7 @@ fn pile_of_lockouts(rt: HostRuntime) -> Result<(), Fail> {
     assert_eq!(rt; try_out(&mut pile, 2, 2), Ok(()));
     assert_eq!(rt; try_out(&mut pile, 3, 2), Err(Stop::Absent(2)));
     assert_eq!(rt; try_out(&mut pile, 1, 3), Err(Stop::Absent(3)));
-    let Ok(b) = Bounds::new(1, 4) else {
-        return Err(Fail::new("no bounds"));
-    };
+    let b = Bounds::new(1, 4)?;
     assert_eq!(rt; pile.rebound(2, b), Ok(()));
     let seen = pile.arc(2).ok_or("no arc")?;
     assert_eq!(rt; seen.hi, 4);

@@ -3,11 +3,11 @@
 // `Network` states what every make and layer owes: one meaning, and answers that are read off it. Asking
 // changes nothing; rebound, recost, take-out and hand-back change just what they name, and where they
 // refuse they change nothing. `Stop` is why a call refuses; `told` (specs) gives each case its number and
-// place. `Bounds` exist only in order and within the limits. `Lockout` stands over any network and has up
-// to 16 of its arcs out. A `Tag` stands for an arc that is out and must be handed back: only a lock-out
-// makes or spends one, and a `TagRing`, which keeps tags by their numbers; the prover refuses to let one
-// go. `try_out` takes an arc out and hands it back, and its contract says that this is never refused and
-// leaves the network as it was.
+// place, and it prints as those. `Bounds` exist only in order and within the limits. `Lockout` stands over
+// any network and has up to 16 of its arcs out. A `Tag` stands for an arc that is out and must be handed
+// back: only a lock-out makes or spends one, and a `TagRing`, which keeps tags by their numbers; the prover
+// refuses to let one go. `try_out` takes an arc out and hands it back, and its contract says that this is
+// never refused and leaves the network as it was.
 //
 // Not promised here: that the rows of a network are fit. Rows hold plain numbers, and calls on a plan
 // look at them first. Nor that a lock-out is let go empty: its network is lent or owned, and a tag that
@@ -15,6 +15,7 @@
 #![tactic(auto)]
 
 mod bounds;
+mod limits;
 mod lockout;
 mod network;
 mod ring;
@@ -23,6 +24,7 @@ mod tags;
 mod trying;
 
 pub use bounds::Bounds;
+pub use limits::{COST_LIMIT, MOST_ARCS, MOST_NODES};
 pub use lockout::Lockout;
 pub use network::{Arc, Network};
 pub use ring::TagRing;

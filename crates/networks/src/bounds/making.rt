@@ -1,6 +1,6 @@
 // The making of a pair of bounds, and its two numbers.
 
-ghost use Rattle.std.specs.Prelude.{◌≡◌, ℕ};
+ghost use Rattle.std.specs.Prelude.{◌≡◌, ℕ, pos, Ok};
 ghost use Rattle.networks.specs.Bounding.{made_bounds, read_bounds};
 
 use super::Bounds;
@@ -27,5 +27,14 @@ impl Bounds {
         ensures { result ≡ self.hi }
     {
         self.hi
+    }
+}
+
+// 0 to 0.
+impl Default for Bounds {
+    ghost is_default = { λ b. read_bounds (Ok b) ≡ made_bounds (pos 0) (pos 0) };
+
+    fn default() -> Bounds {
+        Bounds { lo: 0, hi: 0 }
     }
 }
