@@ -237,9 +237,7 @@ fn stops(rt: HostRuntime) -> Result<(), Fail> {
         return Err(Fail::new("no fault"));
     };
     assert_eq!(rt; fault.stop(), Some(Stop::Bounds(0)));
-    let Err(fault) = read_header("(net".as_bytes()) else {
-        return Err(Fail::new("no fault"));
-    };
+    let fault = read_header("(net".as_bytes()).err().ok_or("no fault")?;
     assert_eq!(rt; fault.stop(), None);
     Ok(())
 }
@@ -247,13 +245,9 @@ fn stops(rt: HostRuntime) -> Result<(), Fail> {
 // One byte too many is told before all else.
 #[test]
 fn long_files(rt: HostRuntime) -> Result<(), Fail> {
-    let Err(fault) = read_header(&[b'#'; 65_537]) else {
-        return Err(Fail::new("no fault"));
-    };
+    let fault = read_header(&[b'#'; 65_537]).err().ok_or("no fault")?;
     assert_eq!(rt; (fault.line(), fault.place(), fault.cause()), (1, 1, 8));
-    let Err(fault) = read_header(&[b'#'; 65_536]) else {
-        return Err(Fail::new("no fault"));
-    };
+    let fault = read_header(&[b'#'; 65_536]).err().ok_or("no fault")?;
     assert_eq!(rt; (fault.line(), fault.place(), fault.cause()), (1, 1, 1));
     Ok(())
 }
