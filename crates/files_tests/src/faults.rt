@@ -4,7 +4,7 @@ use costs::{Plain, TwoTier};
 use files::{FileCost, ReadStop, read_header, read_table};
 use makes::Row;
 use networks::Stop;
-use std::alloc::{AllocError, Global};
+use std::alloc::AllocError;
 use std::process::Abort;
 use std::test::Fail;
 
@@ -24,45 +24,27 @@ fn told<C: FileCost>(text: &[u8], rows: &mut [Row<C>]) -> (usize, usize, u8) {
 }
 
 // The fault is the one that is due, and the rows are as they were.
-fn refused(rt: &impl Abort, text: &str, due: (usize, usize, u8)) {
+fn refused<C: FileCost>(
+    rt: &(impl AllocGlobal + Abort),
+    text: &str,
+    due: (usize, usize, u8),
+) -> Result<(), AllocError> {
     let blank = Row {
         from: 7,
         to: 7,
         lo: 7,
         hi: 7,
-        cost: Plain { units: 7 },
+        cost: C::of_tiers(7, 7),
     };
-    let mut rows = [blank; 2];
+    let mut rows = vec![in rt.alloc(); blank; 2]?;
     assert_eq!(rt; told(text.as_bytes(), &mut rows), due, "{}", text);
     assert_eq!(rt; (rows[0].from, rows[1].from), (7, 7), "{}", text);
-}
-
-// The same of files with costs of two tiers.
-fn refused_two(rt: &impl Abort, text: &str, due: (usize, usize, u8)) {
-    let blank = Row {
-        from: 7,
-        to: 7,
-        lo: 7,
-        hi: 7,
-        cost: TwoTier {
-            first: 7,
-            second: 7,
-        },
-    };
-    let mut rows = [blank; 2];
-    assert_eq!(rt; told(text.as_bytes(), &mut rows), due, "{}", text);
-    assert_eq!(rt; (rows[0].from, rows[1].from), (7, 7), "{}", text);
-}
-
-fn joined(heap: Global, first: &str, rest: &str) -> Result<String, AllocError> {
-    let mut text = String::from_str(heap, first)?;
-    text.push_str(rest)?;
-    Ok(text)
+    Ok(())
 }
 
 // Faults of the first line.
 #[test]
-fn first_lines(rt: HostRuntime) {
+fn first_lines(rt: HostRuntime) -> Result<(), Fail> {
     let cases: [Case; 40] = [
         // a byte of no token
         ("#", 1, 1),
@@ -111,8 +93,9 @@ fn first_lines(rt: HostRuntime) {
         ("(net (nodes 3) (arcs 0) (tiers 3))\n", 32, 6),
     ];
     for (text, place, cause) in cases {
-        refused(&rt, text, (1, place, cause));
+        refused::<Plain>(&rt, text, (1, place, cause))?;
     }
+    Ok(())
 }
 
 // Faults of an arc's line.
@@ -177,8 +160,8 @@ fn arc_lines(rt: HostRuntime) -> Result<(), Fail> {
         ),
     ];
     for (line, place, cause) in cases {
-        let text = joined(rt.alloc(), PLAIN, line)?;
-        refused(&rt, text.as_str(), (2, place, cause));
+        let text = format!(in rt.alloc(); "{PLAIN}{line}")?;
+        refused::<Plain>(&rt, text.as_str(), (2, place, cause))?;
     }
     Ok(())
 }
@@ -203,38 +186,40 @@ fn two_tiers(rt: HostRuntime) -> Result<(), Fail> {
         ),
     ];
     for (line, place, cause) in cases {
-        let text = joined(rt.alloc(), TWO, line)?;
-        refused_two(&rt, text.as_str(), (2, place, cause));
+        let text = format!(in rt.alloc(); "{TWO}{line}")?;
+        refused::<TwoTier>(&rt, text.as_str(), (2, place, cause))?;
     }
-    refused_two(&rt, PLAIN, (1, 32, 6));
+    refused::<TwoTier>(&rt, PLAIN, (1, 32, 6))?;
     Ok(())
 }
 
 // Faults past the first arc's line.
 #[test]
-fn later_lines(rt: HostRuntime) {
-    refused(&rt, "(net (nodes 3) (arcs 0) (tiers 1))\n\n", (2, 1, 5));
-    refused(&rt, "(net (nodes 3) (arcs 0) (tiers 1))\n#", (2, 1, 5));
-    refused(
-        &rt,
-        "(net (nodes 1) (arcs 1) (tiers 1))\n(arc (from 1) (to 1) (lo 0) (hi 5) (cost 2))\n\n",
-        (3, 1, 5),
-    );
-    refused(
-        &rt,
-        "(net (nodes 1) (arcs 1) (tiers 1))\n(arc (from 1) (to 1) (lo 0) (hi 5) (cost 2))\n(arc (from 1) (to 1) (lo 0) (hi 5) (cost 2))\n",
-        (3, 1, 5),
-    );
-    refused(
-        &rt,
-        "(net (nodes 1) (arcs 2) (tiers 1))\n(arc (from 1) (to 1) (lo 0) (hi 5) (cost 2))\n",
-        (3, 1, 4),
-    );
-    refused(
-        &rt,
-        "(net (nodes 1) (arcs 2) (tiers 1))\n(arc (from 1) (to 1) (lo 0) (hi 5) (cost 2))\n(arc (from 1) (to 2) (lo 0) (hi 5) (cost 2))\n",
-        (3, 19, 6),
-    );
+fn later_lines(rt: HostRuntime) -> Result<(), Fail> {
+    let cases: [(&str, (usize, usize, u8)); 6] = [
+        ("(net (nodes 3) (arcs 0) (tiers 1))\n\n", (2, 1, 5)),
+        ("(net (nodes 3) (arcs 0) (tiers 1))\n#", (2, 1, 5)),
+        (
+            "(net (nodes 1) (arcs 1) (tiers 1))\n(arc (from 1) (to 1) (lo 0) (hi 5) (cost 2))\n\n",
+            (3, 1, 5),
+        ),
+        (
+            "(net (nodes 1) (arcs 1) (tiers 1))\n(arc (from 1) (to 1) (lo 0) (hi 5) (cost 2))\n(arc (from 1) (to 1) (lo 0) (hi 5) (cost 2))\n",
+            (3, 1, 5),
+        ),
+        (
+            "(net (nodes 1) (arcs 2) (tiers 1))\n(arc (from 1) (to 1) (lo 0) (hi 5) (cost 2))\n",
+            (3, 1, 4),
+        ),
+        (
+            "(net (nodes 1) (arcs 2) (tiers 1))\n(arc (from 1) (to 1) (lo 0) (hi 5) (cost 2))\n(arc (from 1) (to 2) (lo 0) (hi 5) (cost 2))\n",
+            (3, 19, 6),
+        ),
+    ];
+    for (text, due) in cases {
+        refused::<Plain>(&rt, text, due)?;
+    }
+    Ok(())
 }
 
 // The stop of bounds that cannot be made is told too.
@@ -252,9 +237,7 @@ fn stops(rt: HostRuntime) -> Result<(), Fail> {
         return Err(Fail::new("no fault"));
     };
     assert_eq!(rt; fault.stop(), Some(Stop::Bounds(0)));
-    let Err(fault) = read_header("(net".as_bytes()) else {
-        return Err(Fail::new("no fault"));
-    };
+    let fault = read_header("(net".as_bytes()).err().ok_or("no fault")?;
     assert_eq!(rt; fault.stop(), None);
     Ok(())
 }
@@ -262,13 +245,9 @@ fn stops(rt: HostRuntime) -> Result<(), Fail> {
 // One byte too many is told before all else.
 #[test]
 fn long_files(rt: HostRuntime) -> Result<(), Fail> {
-    let Err(fault) = read_header(&[b'#'; 65_537]) else {
-        return Err(Fail::new("no fault"));
-    };
+    let fault = read_header(&[b'#'; 65_537]).err().ok_or("no fault")?;
     assert_eq!(rt; (fault.line(), fault.place(), fault.cause()), (1, 1, 8));
-    let Err(fault) = read_header(&[b'#'; 65_536]) else {
-        return Err(Fail::new("no fault"));
-    };
+    let fault = read_header(&[b'#'; 65_536]).err().ok_or("no fault")?;
     assert_eq!(rt; (fault.line(), fault.place(), fault.cause()), (1, 1, 1));
     Ok(())
 }

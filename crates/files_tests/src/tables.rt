@@ -1,7 +1,7 @@
 // Files that are read.
 
 use costs::{Plain, TwoTier};
-use files::{ReadStop, read_header, read_table};
+use files::{Header, ReadStop, read_header, read_table};
 use makes::Row;
 use networks::Stop;
 use std::test::Fail;
@@ -42,22 +42,23 @@ fn two_tier(row: Row<TwoTier>) -> (usize, usize, i32, i32, i64, i64) {
 }
 
 #[test]
-fn triangle(rt: HostRuntime) -> Result<(), Fail> {
+fn triangle(rt: HostRuntime) {
     let mut rows = [BLANK; 5];
-    let Ok(header) = read_table(TRIANGLE.as_bytes(), &mut rows) else {
-        return Err(Fail::new("not read"));
+    let header = Header {
+        nodes: 3,
+        arcs: 4,
+        tiers: 1,
     };
-    assert_eq!(rt; (header.nodes, header.arcs, header.tiers), (3, 4, 1));
+    assert_eq!(rt; read_table(TRIANGLE.as_bytes(), &mut rows), Ok(header));
     assert_eq!(rt; plain(rows[0]), (1, 2, 0, 5, 2));
     assert_eq!(rt; plain(rows[1]), (2, 3, 0, 5, 1));
     assert_eq!(rt; plain(rows[2]), (1, 3, 0, 4, 4));
     assert_eq!(rt; plain(rows[3]), (3, 1, 6, 6, 0));
     assert_eq!(rt; plain(rows[4]), (7, 7, 7, 7, 7), "past the last row");
-    Ok(())
 }
 
 #[test]
-fn costs_of_two_tiers(rt: HostRuntime) -> Result<(), Fail> {
+fn costs_of_two_tiers(rt: HostRuntime) {
     let blank = Row {
         from: 0,
         to: 0,
@@ -69,53 +70,60 @@ fn costs_of_two_tiers(rt: HostRuntime) -> Result<(), Fail> {
         },
     };
     let mut rows = [blank; 2];
-    let Ok(header) = read_table(TWO_TIERS.as_bytes(), &mut rows) else {
-        return Err(Fail::new("not read"));
+    let header = Header {
+        nodes: 256,
+        arcs: 2,
+        tiers: 2,
     };
-    assert_eq!(rt; (header.nodes, header.arcs, header.tiers), (256, 2, 2));
+    assert_eq!(rt; read_table(TWO_TIERS.as_bytes(), &mut rows), Ok(header));
     assert_eq!(rt; two_tier(rows[0]), (1, 256, 0, 5, 0, -9));
     assert_eq!(rt;
         two_tier(rows[1]),
         (256, 10, -1_000_000, 1_000_000, -1_000_000, 1_000_000)
     );
-    Ok(())
 }
 
 #[test]
-fn headers(rt: HostRuntime) -> Result<(), Fail> {
-    let Ok(header) = read_header("(net (nodes 1) (arcs 1024) (tiers 2))\n#".as_bytes()) else {
-        return Err(Fail::new("not read"));
+fn headers(rt: HostRuntime) {
+    let header = Header {
+        nodes: 1,
+        arcs: 1024,
+        tiers: 2,
     };
-    assert_eq!(rt; (header.nodes, header.arcs, header.tiers), (1, 1024, 2));
-    Ok(())
+    assert_eq!(rt;
+        read_header("(net (nodes 1) (arcs 1024) (tiers 2))\n#".as_bytes()),
+        Ok(header)
+    );
 }
 
 #[test]
-fn no_arcs(rt: HostRuntime) -> Result<(), Fail> {
+fn no_arcs(rt: HostRuntime) {
     let mut rows = [BLANK; 1];
-    let Ok(header) = read_table("(net (nodes 1) (arcs 0) (tiers 1))\n".as_bytes(), &mut rows) else {
-        return Err(Fail::new("not read"));
+    let header = Header {
+        nodes: 1,
+        arcs: 0,
+        tiers: 1,
     };
-    assert_eq!(rt; (header.nodes, header.arcs, header.tiers), (1, 0, 1));
+    assert_eq!(rt;
+        read_table("(net (nodes 1) (arcs 0) (tiers 1))\n".as_bytes(), &mut rows),
+        Ok(header)
+    );
     assert_eq!(rt; plain(rows[0]), (7, 7, 7, 7, 7));
-    Ok(())
 }
 
 // Rows are counted after the first line and before the second.
 #[test]
 fn too_few_rows(rt: HostRuntime) -> Result<(), Fail> {
     let mut rows = [BLANK; 3];
-    let Err(ReadStop::Stop(stop)) = read_table(TRIANGLE.as_bytes(), &mut rows) else {
-        return Err(Fail::new("no stop"));
-    };
-    assert_eq!(rt; stop, Stop::Lengths);
-    let Err(ReadStop::Stop(stop)) = read_table(
-        "(net (nodes 1) (arcs 4) (tiers 1))\n#".as_bytes(),
-        &mut rows,
-    ) else {
-        return Err(Fail::new("no stop"));
-    };
-    assert_eq!(rt; stop, Stop::Lengths);
+    assert_eq!(rt;
+        read_table(TRIANGLE.as_bytes(), &mut rows),
+        Err(ReadStop::Stop(Stop::Lengths))
+    );
+    let faulty = "(net (nodes 1) (arcs 4) (tiers 1))\n#";
+    assert_eq!(rt;
+        read_table(faulty.as_bytes(), &mut rows),
+        Err(ReadStop::Stop(Stop::Lengths))
+    );
     let Err(ReadStop::Fault(fault)) = read_table(
         "(net (nodes 1) (arcs 4) (tiers 1))".as_bytes(),
         &mut rows,

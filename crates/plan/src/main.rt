@@ -15,7 +15,9 @@ use std::io::Read;
 // Standard input, up to one byte more than a file may have.
 fn read_input(rt: &HostRuntime) -> io::Result<Vec<u8>> {
     let mut text = Vec::new(rt.alloc());
-    rt.stdin().take(MOST_BYTES as u64 + 1).read_to_end(&mut text)?;
+    rt.stdin()
+        .take(MOST_BYTES as u64 + 1)
+        .read_to_end(&mut text)?;
     Ok(text)
 }
 

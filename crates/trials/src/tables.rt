@@ -4,21 +4,11 @@ use costs::CostKind;
 use files::FileCost;
 use networks::Network;
 use search::{Answer, settle};
-use std::alloc::{AllocError, Global};
 use std::io;
 
-fn filled<T: Copy>(heap: Global, x: T, n: usize) -> Result<Vec<T>, AllocError> {
-    let mut table = Vec::new(heap);
-    for _ in 0..n {
-        table.push(x)?;
-    }
-    Ok(table)
-}
-
 fn print_numbers(rt: &HostRuntime, flow: &[i32]) -> io::Result<()> {
-    for f in flow.iter().take(8) {
-        let x = *f;
-        print!(rt; " {x}")?;
+    for carried in flow.iter().take(8) {
+        print!(rt; " {carried}")?;
     }
     println!(rt; "")
 }
@@ -36,9 +26,9 @@ where
     N::Cost: FileCost,
 {
     let heap = rt.alloc();
-    let mut flow = filled(heap, start, net.arcs())?;
-    let mut prices = filled(heap, N::Cost::zero(), net.nodes())?;
-    let mut marks = filled(heap, 0u8, net.nodes())?;
+    let mut flow = vec![in heap; start; net.arcs()]?;
+    let mut prices = vec![in heap; N::Cost::zero(); net.nodes()]?;
+    let mut marks = vec![in heap; 0u8; net.nodes()]?;
     match settle(net, &mut flow, needs, &mut prices, &mut marks, budget) {
         Ok(Answer::Least { total, laps }) => {
             let first = total.first();
@@ -48,18 +38,9 @@ where
         }
         Ok(Answer::Paused { laps }) => println!(rt; "{name}: paused, laps {laps}"),
         Ok(Answer::None) => {
-            let mut cut = 0;
-            for m in marks.iter() {
-                if *m == 1 && cut < 1000 {
-                    cut += 1;
-                }
-            }
+            let cut = marks.iter().filter(|mark| **mark == 1).count();
             println!(rt; "{name}: none, a cut of {cut} nodes")
         }
-        Err(stop) => {
-            let number = stop.number();
-            let place = stop.place();
-            println!(rt; "{name}: refused {number} {place}")
-        }
+        Err(stop) => println!(rt; "{name}: refused {stop}"),
     }
 }

@@ -17,91 +17,38 @@ fn row(from: usize, to: usize, lo: i32, hi: i32, units: i64) -> Row<Plain> {
     }
 }
 
-fn triangle_rows(lo: i32, hi: i32) -> [Row<Plain>; 4] {
+// Three nodes; the way back from the third to the first carries this many.
+fn triangle_rows(back: i32) -> [Row<Plain>; 4] {
     [
         row(1, 2, 0, 5, 2),
         row(2, 3, 0, 5, 1),
         row(1, 3, 0, 4, 4),
-        row(3, 1, lo, hi, 0),
+        row(3, 1, back, back, 0),
     ]
 }
 
 pub fn triangle(rt: &HostRuntime) -> io::Result<()> {
-    let mut six = triangle_rows(6, 6);
-    try_from(
-        rt,
-        "triangle at 6",
-        &ArcTable::new(3, 4, &mut six),
-        0,
-        &[0; 3],
-        FULL,
-    )?;
-    let mut nine = triangle_rows(9, 9);
-    try_from(
-        rt,
-        "triangle at 9",
-        &ArcTable::new(3, 4, &mut nine),
-        0,
-        &[0; 3],
-        FULL,
-    )?;
-    let mut ten = triangle_rows(10, 10);
-    try_from(
-        rt,
-        "triangle at 10",
-        &ArcTable::new(3, 4, &mut ten),
-        0,
-        &[0; 3],
-        FULL,
-    )?;
-    let mut again = triangle_rows(6, 6);
-    try_from(
-        rt,
-        "triangle, no budget",
-        &ArcTable::new(3, 4, &mut again),
-        0,
-        &[0; 3],
-        0,
-    )?;
-    let mut off = triangle_rows(6, 6);
-    try_from(
-        rt,
-        "triangle, a need not met",
-        &ArcTable::new(3, 4, &mut off),
-        0,
-        &[0, 1, 0],
-        FULL,
-    )?;
-    let mut few = triangle_rows(6, 6);
-    try_from(
-        rt,
-        "triangle, a table too short",
-        &ArcTable::new(3, 4, &mut few),
-        0,
-        &[0; 2],
-        FULL,
-    )
+    let cases: [(&str, i32, &[i32], u32); 6] = [
+        ("triangle at 6", 6, &[0, 0, 0], FULL),
+        ("triangle at 9", 9, &[0, 0, 0], FULL),
+        ("triangle at 10", 10, &[0, 0, 0], FULL),
+        ("triangle, no budget", 6, &[0, 0, 0], 0),
+        ("triangle, a need not met", 6, &[0, 1, 0], FULL),
+        ("triangle, a table too short", 6, &[0, 0], FULL),
+    ];
+    for (name, back, needs, budget) in cases {
+        let mut rows = triangle_rows(back);
+        try_from(rt, name, &ArcTable::new(3, 4, &mut rows), 0, needs, budget)?;
+    }
+    Ok(())
 }
 
 pub fn one_node(rt: &HostRuntime) -> io::Result<()> {
-    let mut gain = [row(1, 1, -2, 3, -1)];
-    try_from(
-        rt,
-        "loop at -1",
-        &ArcTable::new(1, 1, &mut gain),
-        0,
-        &[0],
-        FULL,
-    )?;
-    let mut lose = [row(1, 1, -2, 3, 1)];
-    try_from(
-        rt,
-        "loop at 1",
-        &ArcTable::new(1, 1, &mut lose),
-        0,
-        &[0],
-        FULL,
-    )?;
+    for (name, units) in [("loop at -1", -1), ("loop at 1", 1)] {
+        let mut rows = [row(1, 1, -2, 3, units)];
+        let net = ArcTable::new(1, 1, &mut rows);
+        try_from(rt, name, &net, 0, &[0], FULL)?;
+    }
     let mut none: [Row<Plain>; 0] = [];
     try_from(
         rt,
@@ -114,24 +61,12 @@ pub fn one_node(rt: &HostRuntime) -> io::Result<()> {
 }
 
 pub fn two_nodes(rt: &HostRuntime) -> io::Result<()> {
-    let mut three = [row(1, 2, 0, 5, 1)];
-    try_from(
-        rt,
-        "opened at 3",
-        &ArcTable::new(2, 1, &mut three),
-        3,
-        &[3, -3],
-        FULL,
-    )?;
-    let mut six = [row(1, 2, 0, 5, 1)];
-    try_from(
-        rt,
-        "opened at 6",
-        &ArcTable::new(2, 1, &mut six),
-        6,
-        &[6, -6],
-        FULL,
-    )
+    for (name, start) in [("opened at 3", 3), ("opened at 6", 6)] {
+        let mut rows = [row(1, 2, 0, 5, 1)];
+        let net = ArcTable::new(2, 1, &mut rows);
+        try_from(rt, name, &net, start, &[start, -start], FULL)?;
+    }
+    Ok(())
 }
 
 pub fn two_tier(rt: &HostRuntime) -> io::Result<()> {
@@ -183,10 +118,10 @@ pub fn two_tier(rt: &HostRuntime) -> io::Result<()> {
 // 256 nodes in a ring, each with four arcs to the next: the largest table.
 pub fn ring(rt: &HostRuntime) -> io::Result<()> {
     let mut rows = [row(1, 1, 0, 0, 0); 1024];
-    for i in 0..1024 {
+    for (i, slot) in rows.iter_mut().enumerate() {
         let from = i / 4 + 1;
         let to = if from == 256 { 1 } else { from + 1 };
-        rows[i] = row(from, to, 0, 10, (i % 4) as i64 - 2);
+        *slot = row(from, to, 0, 10, (i % 4) as i64 - 2);
     }
     try_from(
         rt,
