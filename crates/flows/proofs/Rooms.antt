@@ -1,19 +1,18 @@
 -- A lap whose steps have room, the first over an arc out of kilter that way, leads to a better flow, nearer to kilter.
-use Rattle.std.proofs.Common.{◌≡◌, ℕ, ◌+◌, ◌<◌, ◌≤◌, Bool, true, false, cond, not, ◌⊎◌, List, [], ◌∷◌, map, length, get_or, set, ℤ, pos, negsuc, ◌+ℤ◌, neg_ℤ, nat_abs, ◌≤ℤ◌, ◌<ℤ◌, sym, refl, ap, ◌∙◌, subst, ap₂, subst₂, inl, inr, ⊎_elim, arith, length-set}
+use Rattle.std.proofs.Common.{◌≡◌, ℕ, ◌+◌, ◌<◌, ◌≤◌, Bool, true, false, cond, not, ◌⊎◌, List, [], ◌∷◌, map, length, get_or, set, ℤ, pos, negsuc, ◌+ℤ◌, neg_ℤ, ◌≤ℤ◌, ◌<ℤ◌, sym, refl, ap, ◌∙◌, subst, ap₂, subst₂, inl, inr, ⊎_elim, arith, length-set}
 use borrow.Author.Differences.{ints}
 use Rattle.std.specs.List.{AllByRecursion}
 use Rattle.std.proofs.lemmas.List.{get_or-set_same, get_or-set_other}
 use Rattle.std.proofs.lemmas.Bool.{cases_eq}
 use Rattle.costs.specs.Kinds.{Kind, Laws, sums, minus}
-use Rattle.networks.specs.Limits.{flow_limit}
 use Rattle.networks.specs.declared.network.Arc.{Arc}
 use Rattle.flows.specs.declared.steps.Step.{Step}
-use Rattle.flows.specs.Flows.{total, outside, excess, EachArc, Limited}
+use Rattle.flows.specs.Flows.{total, outside, excess}
 use Rattle.flows.specs.Kilter.{price, reduced, kilter_number, kilter_sum}
 use Rattle.networks.specs.Nets.{IsAt}
 use Rattle.flows.specs.Laps.{near, far, Leads, first, Chain, Apart, moved, sent, Better}
 use Rattle.flows.proofs.Group.{assoc, comm, left, left_comm, swap, cancel, cancel_le, cancel_less, le_refl, add_le, below, times_zero, times_one, times_add, times_plus, times_minus, times_cancel, times_up, times_down}
-use Rattle.flows.proofs.ArcSums.{at_place, each_getD, each_set, naturals, costs, over_set}
+use Rattle.flows.proofs.ArcSums.{naturals, costs, over_set}
 use Rattle.flows.proofs.Numbers.{Eases, Mends, along_eases, against_eases, along_mends, against_mends}
 
 -- the arc has room for the change from f to g: along, up to hi where its reduced cost is not above zero, else up to lo; against alike
@@ -35,10 +34,6 @@ Roomy K ps arcs x (s ∷ rest) fs = HasRoom K ps arcs x fs s × Roomy K ps arcs 
 abbrev pub Amiss : {C : Type 0} → Kind C → List C → Arc C → Bool → ℤ → Type 0
 Amiss K ps a along f = (along ≡ true → (f <ℤ a.lo) ⊎ (K.le K.zero (reduced K ps a) ≡ false)) × (along ≡ false → (a.hi <ℤ f) ⊎ (K.le (reduced K ps a) K.zero ≡ false))
 
--- a step with room stays within the limits
-pub room_limited : {C : Type 0} (K : Kind C) (ps : List C) (a : Arc C) (along : Bool) (f g : ℤ) → Room K ps a along f g → Limited a f → nat_abs g ≤ flow_limit
-room_limited K ps a along f g r (l, h, k) = let m = r.if_along in let n = r.if_against in grind (arith, ints)
-
 module _ {C : Type 0} (K : Kind C) (ps : List C) (arcs : List (Arc C)) where
   kept_room : (x : ℤ) (fs : List ℤ) (i : ℕ) (y : ℤ) (steps : List Step) → AllByRecursion (λ j. ¬ (i ≡ j)) (map (λ s. s.arc) steps) → AllByRecursion (HasRoom K ps arcs x fs) steps → AllByRecursion (HasRoom K ps arcs x (set fs i y)) steps
   kept_room x fs i y [] n h = tt
@@ -49,16 +44,6 @@ module _ {C : Type 0} (K : Kind C) (ps : List C) (arcs : List (Arc C)) where
   pub roomy_from_start : (x : ℤ) (steps : List Step) (fs : List ℤ) → Apart (map (λ s. s.arc) steps) → AllByRecursion (HasRoom K ps arcs x fs) steps → Roomy K ps arcs x steps fs
   roomy_from_start x [] fs n h = tt
   roomy_from_start x (s ∷ rest) fs (n, ns) (h, hs) = (h, roomy_from_start x rest (set fs s.arc (moved x s fs)) ns (kept_room x fs s.arc (moved x s fs) rest n hs))
-
-  -- flows stay within the limits
-  pub sent_limited : (x : ℤ) (steps : List Step) (fs : List ℤ) → AllByRecursion (λ s. s.arc < length arcs) steps → EachArc Limited arcs fs → Roomy K ps arcs x steps fs → EachArc Limited arcs (sent x steps fs)
-  sent_limited x [] fs is h r = h
-  sent_limited x (s ∷ rest) fs (i, is) h (r, rs) =
-      let at = at_place arcs s.arc i in
-      let here = each_getD Limited arcs fs s.arc at.0 h at.1 in
-      sent_limited x rest (set fs s.arc (moved x s fs)) is
-      (each_set Limited arcs fs s.arc at.0 (moved x s fs) h at.1
-      (here.0, here.1, room_limited K ps at.0 s.along (get_or fs s.arc (pos 0)) (moved x s fs) (r at.0 at.1) here)) rs
 
 module _ {C : Type 0} (K : Kind C) (laws : Laws K) where
   lower : (t r m : C) → K.le r K.zero ≡ true → K.le (K.plus t (K.plus r m)) (K.plus t m) ≡ true
