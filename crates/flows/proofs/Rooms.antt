@@ -143,74 +143,46 @@ module _ {C : Type 0} (K : Kind C) (laws : Laws K) where
     arc_mends a true f g r m = along_mends a.lo a.hi f g r.fits (K.le K.zero (reduced K ps a)) (K.le (reduced K ps a) K.zero) (r.if_along refl).0 (r.if_along refl).1 (m.0 refl)
     arc_mends a false f g r m = against_mends a.lo a.hi f g r.fits (K.le K.zero (reduced K ps a)) (K.le (reduced K ps a) K.zero) (laws.total (reduced K ps a) K.zero) (r.if_against refl).0 (r.if_against refl).1 (m.1 refl)
 
+    -- what one arc's new flow does to the sums
+    number_set : (fs : List ℤ) (i : ℕ) (g : ℤ) (a : Arc C) → length fs ≡ length arcs → IsAt arcs i a →
+        kilter_sum K ps arcs (set fs i g) + kilter_number K (reduced K ps a) a (get_or fs i (pos 0)) ≡ kilter_sum K ps arcs fs + kilter_number K (reduced K ps a) a g
+    number_set fs i g a l at = over_set naturals (λ a f. kilter_number K (reduced K ps a) a f) arcs fs i g a l at
+
+    gap_set : (fs : List ℤ) (i : ℕ) (g : ℤ) (a : Arc C) → length fs ≡ length arcs → IsAt arcs i a → excess arcs (set fs i g) + outside a (get_or fs i (pos 0)) ≡ excess arcs fs + outside a g
+    gap_set fs i g a l at = over_set naturals outside arcs fs i g a l at
+
     step_eased : (x : ℤ) (s : Step) (fs : List ℤ) (m : ℕ) → length fs ≡ length arcs → Leads arcs s m → HasRoom K ps arcs x fs s → Eased x s.node m fs (set fs s.arc (moved x s fs))
-    step_eased x s fs m l (a, at, p, q) room = record {
-      numbers = omega (arith, n, eases.number_falls);
-      gaps = omega (arith, e, eases.gap_falls);
-      cheaper = λ same. subst (λ z. K.le z (K.plus (total (sums K) arcs fs) (K.times x (price K ps m))) ≡ true) (sym (step_cost x s fs a m l at p q))
-          (lower (total (sums K) arcs fs) (K.times y (reduced K ps a)) (K.times x (price K ps m)) (wanted_le (reduced K ps a) f y (eases.wanted (omega (arith, e, same)))));
-    }
-      where
-        y : ℤ
-        y = cond s.along x (neg_ℤ x)
-
-        f : ℤ
-        f = get_or fs s.arc (pos 0)
-
-        g : ℤ
-        g = moved x s fs
-
-        eases : Eases (K.le K.zero (reduced K ps a)) (K.le (reduced K ps a) K.zero) a.lo a.hi f g
-        eases = arc_eases a s.along f g (room a at)
-
-        n : kilter_sum K ps arcs (set fs s.arc g) + kilter_number K (reduced K ps a) a f ≡ kilter_sum K ps arcs fs + kilter_number K (reduced K ps a) a g
-        n = over_set naturals (λ a f. kilter_number K (reduced K ps a) a f) arcs fs s.arc g a l at
-
-        e : excess arcs (set fs s.arc g) + outside a f ≡ excess arcs fs + outside a g
-        e = over_set naturals outside arcs fs s.arc g a l at
+    step_eased x s fs m l (a, at, p, q) room =
+        let y : ℤ = cond s.along x (neg_ℤ x) in
+        let f : ℤ = get_or fs s.arc (pos 0) in
+        let g : ℤ = moved x s fs in
+        let eases = arc_eases a s.along f g (room a at) in
+        let n = number_set fs s.arc g a l at in
+        let e = gap_set fs s.arc g a l at in
+        record {
+          numbers = omega (arith, n, eases.number_falls);
+          gaps = omega (arith, e, eases.gap_falls);
+          cheaper = λ same. subst (λ z. K.le z (K.plus (total (sums K) arcs fs) (K.times x (price K ps m))) ≡ true) (sym (step_cost x s fs a m l at p q))
+              (lower (total (sums K) arcs fs) (K.times y (reduced K ps a)) (K.times x (price K ps m)) (wanted_le (reduced K ps a) f y (eases.wanted (omega (arith, e, same)))));
+        }
 
     step_mended : (x : ℤ) (s : Step) (fs : List ℤ) (m : ℕ) → length fs ≡ length arcs → Leads arcs s m → HasRoom K ps arcs x fs s →
         ((a : Arc C) → IsAt arcs s.arc a → Amiss K ps a s.along (get_or fs s.arc (pos 0))) → Mended x s.node m fs (set fs s.arc (moved x s fs))
-    step_mended x s fs m l (a, at, p, q) room amiss = record { numbers = omega (arith, n, mends.number_less); better = go mends.wanted }
-      where
-        y : ℤ
-        y = cond s.along x (neg_ℤ x)
-
-        f : ℤ
-        f = get_or fs s.arc (pos 0)
-
-        g : ℤ
-        g = moved x s fs
-
-        u : Bool
-        u = K.le K.zero (reduced K ps a)
-
-        d : Bool
-        d = K.le (reduced K ps a) K.zero
-
-        mends : Mends u d a.lo a.hi f g
-        mends = arc_mends a s.along f g (room a at) (amiss a at)
-
-        eased : Eased x s.node m fs (set fs s.arc g)
-        eased = step_eased x s fs m l (a, at, p, q) room
-
-        n : kilter_sum K ps arcs (set fs s.arc g) + kilter_number K (reduced K ps a) a f ≡ kilter_sum K ps arcs fs + kilter_number K (reduced K ps a) a g
-        n = over_set naturals (λ a f. kilter_number K (reduced K ps a) a f) arcs fs s.arc g a l at
-
-        e : excess arcs (set fs s.arc g) + outside a f ≡ excess arcs fs + outside a g
-        e = over_set naturals outside arcs fs s.arc g a l at
-
-        xm : C
-        xm = K.times x (price K ps m)
-
-        go : (outside a g < outside a f) ⊎ (((f <ℤ g) × (u ≡ false)) ⊎ ((g <ℤ f) × (d ≡ false))) →
-            (excess arcs (set fs s.arc g) < excess arcs fs) ⊎ ((excess arcs (set fs s.arc g) ≤ excess arcs fs) × (K.le (K.plus (total (sums K) arcs fs) xm) (K.plus (total (sums K) arcs (set fs s.arc g)) (K.times x (price K ps s.node))) ≡ false))
-        go (inl falls) = inl (omega (arith, e, falls))
-        go (inr strict) = inr (
-          eased.gaps,
-          subst (λ z. K.le (K.plus (total (sums K) arcs fs) xm) z ≡ false) (sym (step_cost x s fs a m l at p q))
-              (lower_less (total (sums K) arcs fs) (K.times y (reduced K ps a)) xm (wanted_less (reduced K ps a) f y strict)),
-        )
+    step_mended x s fs m l (a, at, p, q) room amiss =
+        let f : ℤ = get_or fs s.arc (pos 0) in
+        let g : ℤ = moved x s fs in
+        let mends = arc_mends a s.along f g (room a at) (amiss a at) in
+        let e = gap_set fs s.arc g a l at in
+        record {
+          numbers = omega (arith, number_set fs s.arc g a l at, mends.number_less);
+          better = ⊎_elim
+              (λ falls. inl (omega (arith, e, falls)))
+              (λ strict. inr (
+                (step_eased x s fs m l (a, at, p, q) room).gaps,
+                subst (λ z. K.le (K.plus (total (sums K) arcs fs) (K.times x (price K ps m))) z ≡ false) (sym (step_cost x s fs a m l at p q))
+                    (lower_less (total (sums K) arcs fs) (K.times (cond s.along x (neg_ℤ x)) (reduced K ps a)) (K.times x (price K ps m)) (wanted_less (reduced K ps a) f (cond s.along x (neg_ℤ x)) strict)),
+              )) mends.wanted;
+        }
 
     eased_both : (x : ℤ) (n m k : ℕ) (f g h : List ℤ) → Eased x n m f g → Eased x m k g h → Eased x n k f h
     eased_both x n m k f g h p q = record {

@@ -1,8 +1,9 @@
 -- One arc more of which stop comes first.
-use Rattle.std.proofs.Common.{◌≡◌, ℕ, suc, ◌+◌, ◌⊎◌, List, [], ◌∷◌, length, ℤ, Some, None, sym, refl, ap, ◌∙◌, ap₂, inl, inr, arith}
+use Rattle.std.proofs.Common.{◌≡◌, ℕ, suc, ◌+◌, ◌⊎◌, List, [], ◌∷◌, length, ℤ, Some, None, sym, refl, ap, ◌∙◌, ap₂, arith}
 use Rattle.networks.specs.declared.network.Arc.{Arc}
 use Rattle.networks.specs.Answers.{Told}
 use Rattle.flows.specs.Stops.{or_else, arc_stop, arcs_stop}
+use Rattle.flows.proofs.Turns.{at_none}
 
 -- k arcs are done, and the next is x with the flow f
 module _ {C : Type 0} (size : C → ℕ) (nodes k i : ℕ) {arcs rest : List (Arc C)} {flow fs : List ℤ} (x : Arc C) (f : ℤ) (p : arcs ≡ x ∷ rest) (q : flow ≡ f ∷ fs) (e : i ≡ k) where
@@ -21,7 +22,4 @@ module _ {C : Type 0} (size : C → ℕ) (nodes k i : ℕ) {arcs rest : List (Ar
 
 -- no arc is left, or no flow
 pub arcs_end : {C : Type 0} (size : C → ℕ) (nodes k : ℕ) (arcs : List (Arc C)) (flow : List ℤ) → (arcs ≡ []) ⊎ (length flow ≡ 0) → arcs_stop size nodes k arcs flow ≡ None
-arcs_end size nodes k [] flow e = refl
-arcs_end size nodes k (x ∷ xs) [] e = refl
-arcs_end size nodes k (x ∷ xs) (f ∷ fs) (inl e) = absurd (let l : length (x ∷ xs) ≡ 0 = ap length e in omega arith)
-arcs_end size nodes k (x ∷ xs) (f ∷ fs) (inr e) = absurd (omega arith)
+arcs_end size nodes k = at_none (arcs_stop size nodes k) None (λ fs. refl) (λ x xs. refl)
