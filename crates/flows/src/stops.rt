@@ -59,7 +59,7 @@ fn arcs_fault<N: Network>(net: &N, flow: &[i32]) -> Result<(), Stop>
 fn meets(balance: i64, need: i32) -> bool
     ensures { result ≡ (int_le balance need && int_le need balance) }
 {
-    balance == need as i64
+    balance == i64::from(need)
 }
 
 // The first node whose imbalance differs from its need.
