@@ -85,10 +85,6 @@ module _ {C : Type 0} (K : Kind C) where
   laps_keep arcs f g zero l e node = ap (λ h. imbalance arcs h node) (sym e)
   laps_keep arcs f g (suc n) l (h, lap, better, laps) node = laps_keep arcs h g n (lap_long arcs f h lap ∙ l) laps node ∙ lap_keeps arcs f h l lap node
 
-  pub laps_long : (arcs : List (Arc C)) (f g : List ℤ) (n : ℕ) → Laps K arcs f n g → length g ≡ length f
-  laps_long arcs f g zero e = ap length (sym e)
-  laps_long arcs f g (suc n) (h, lap, better, laps) = laps_long arcs h g n laps ∙ lap_long arcs f h lap
-
   -- one lap more, at the end
   pub laps_more : (arcs : List (Arc C)) (f g h : List ℤ) (n : ℕ) → Laps K arcs f n g → Lap arcs g h → Better K arcs g h → Laps K arcs f (suc n) h
   laps_more arcs f g h zero e lap better = (h, subst (λ z. Lap arcs z h) (sym e) lap, subst (λ z. Better K arcs z h) (sym e) better, refl)

@@ -1,5 +1,4 @@
 pub mod Group
-pub mod Sizes
 pub mod Stopping
 pub mod Balancing
 pub mod Totalling

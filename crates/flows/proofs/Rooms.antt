@@ -1,19 +1,18 @@
 -- A lap whose steps have room, the first over an arc out of kilter that way, leads to a better flow, nearer to kilter.
-use Rattle.std.proofs.Common.{◌≡◌, ℕ, ◌+◌, ◌<◌, ◌≤◌, Bool, true, false, cond, not, ◌⊎◌, List, [], ◌∷◌, map, length, get_or, set, ℤ, pos, negsuc, ◌+ℤ◌, neg_ℤ, nat_abs, ◌≤ℤ◌, ◌<ℤ◌, sym, refl, ap, ◌∙◌, subst, ap₂, subst₂, inl, inr, ⊎_elim, arith, length-set}
+use Rattle.std.proofs.Common.{◌≡◌, ℕ, ◌+◌, ◌<◌, ◌≤◌, Bool, true, false, cond, not, ◌⊎◌, List, [], ◌∷◌, map, length, get_or, set, ℤ, pos, negsuc, ◌+ℤ◌, neg_ℤ, ◌≤ℤ◌, ◌<ℤ◌, sym, refl, ap, ◌∙◌, subst, ap₂, subst₂, inl, inr, ⊎_elim, arith, length-set}
 use borrow.Author.Differences.{ints}
 use Rattle.std.specs.List.{AllByRecursion}
 use Rattle.std.proofs.lemmas.List.{get_or-set_same, get_or-set_other}
 use Rattle.std.proofs.lemmas.Bool.{cases_eq}
 use Rattle.costs.specs.Kinds.{Kind, Laws, sums, minus}
-use Rattle.networks.specs.Limits.{flow_limit}
 use Rattle.networks.specs.declared.network.Arc.{Arc}
 use Rattle.flows.specs.declared.steps.Step.{Step}
-use Rattle.flows.specs.Flows.{total, outside, excess, EachArc, Limited}
+use Rattle.flows.specs.Flows.{total, outside, excess}
 use Rattle.flows.specs.Kilter.{price, reduced, kilter_number, kilter_sum}
 use Rattle.networks.specs.Nets.{IsAt}
 use Rattle.flows.specs.Laps.{near, far, Leads, first, Chain, Apart, moved, sent, Better}
 use Rattle.flows.proofs.Group.{assoc, comm, left, left_comm, swap, cancel, cancel_le, cancel_less, le_refl, add_le, below, times_zero, times_one, times_add, times_plus, times_minus, times_cancel, times_up, times_down}
-use Rattle.flows.proofs.ArcSums.{at_place, each_getD, each_set, naturals, costs, over_set}
+use Rattle.flows.proofs.ArcSums.{naturals, costs, over_set}
 use Rattle.flows.proofs.Numbers.{Eases, Mends, along_eases, against_eases, along_mends, against_mends}
 
 -- the arc has room for the change from f to g: along, up to hi where its reduced cost is not above zero, else up to lo; against alike
@@ -35,10 +34,6 @@ Roomy K ps arcs x (s ∷ rest) fs = HasRoom K ps arcs x fs s × Roomy K ps arcs 
 abbrev pub Amiss : {C : Type 0} → Kind C → List C → Arc C → Bool → ℤ → Type 0
 Amiss K ps a along f = (along ≡ true → (f <ℤ a.lo) ⊎ (K.le K.zero (reduced K ps a) ≡ false)) × (along ≡ false → (a.hi <ℤ f) ⊎ (K.le (reduced K ps a) K.zero ≡ false))
 
--- a step with room stays within the limits
-pub room_limited : {C : Type 0} (K : Kind C) (ps : List C) (a : Arc C) (along : Bool) (f g : ℤ) → Room K ps a along f g → Limited a f → nat_abs g ≤ flow_limit
-room_limited K ps a along f g r (l, h, k) = let m = r.if_along in let n = r.if_against in grind (arith, ints)
-
 module _ {C : Type 0} (K : Kind C) (ps : List C) (arcs : List (Arc C)) where
   kept_room : (x : ℤ) (fs : List ℤ) (i : ℕ) (y : ℤ) (steps : List Step) → AllByRecursion (λ j. ¬ (i ≡ j)) (map (λ s. s.arc) steps) → AllByRecursion (HasRoom K ps arcs x fs) steps → AllByRecursion (HasRoom K ps arcs x (set fs i y)) steps
   kept_room x fs i y [] n h = tt
@@ -49,16 +44,6 @@ module _ {C : Type 0} (K : Kind C) (ps : List C) (arcs : List (Arc C)) where
   pub roomy_from_start : (x : ℤ) (steps : List Step) (fs : List ℤ) → Apart (map (λ s. s.arc) steps) → AllByRecursion (HasRoom K ps arcs x fs) steps → Roomy K ps arcs x steps fs
   roomy_from_start x [] fs n h = tt
   roomy_from_start x (s ∷ rest) fs (n, ns) (h, hs) = (h, roomy_from_start x rest (set fs s.arc (moved x s fs)) ns (kept_room x fs s.arc (moved x s fs) rest n hs))
-
-  -- flows stay within the limits
-  pub sent_limited : (x : ℤ) (steps : List Step) (fs : List ℤ) → AllByRecursion (λ s. s.arc < length arcs) steps → EachArc Limited arcs fs → Roomy K ps arcs x steps fs → EachArc Limited arcs (sent x steps fs)
-  sent_limited x [] fs is h r = h
-  sent_limited x (s ∷ rest) fs (i, is) h (r, rs) =
-      let at = at_place arcs s.arc i in
-      let here = each_getD Limited arcs fs s.arc at.0 h at.1 in
-      sent_limited x rest (set fs s.arc (moved x s fs)) is
-      (each_set Limited arcs fs s.arc at.0 (moved x s fs) h at.1
-      (here.0, here.1, room_limited K ps at.0 s.along (get_or fs s.arc (pos 0)) (moved x s fs) (r at.0 at.1) here)) rs
 
 module _ {C : Type 0} (K : Kind C) (laws : Laws K) where
   lower : (t r m : C) → K.le r K.zero ≡ true → K.le (K.plus t (K.plus r m)) (K.plus t m) ≡ true
@@ -158,74 +143,46 @@ module _ {C : Type 0} (K : Kind C) (laws : Laws K) where
     arc_mends a true f g r m = along_mends a.lo a.hi f g r.fits (K.le K.zero (reduced K ps a)) (K.le (reduced K ps a) K.zero) (r.if_along refl).0 (r.if_along refl).1 (m.0 refl)
     arc_mends a false f g r m = against_mends a.lo a.hi f g r.fits (K.le K.zero (reduced K ps a)) (K.le (reduced K ps a) K.zero) (laws.total (reduced K ps a) K.zero) (r.if_against refl).0 (r.if_against refl).1 (m.1 refl)
 
+    -- what one arc's new flow does to the sums
+    number_set : (fs : List ℤ) (i : ℕ) (g : ℤ) (a : Arc C) → length fs ≡ length arcs → IsAt arcs i a →
+        kilter_sum K ps arcs (set fs i g) + kilter_number K (reduced K ps a) a (get_or fs i (pos 0)) ≡ kilter_sum K ps arcs fs + kilter_number K (reduced K ps a) a g
+    number_set fs i g a l at = over_set naturals (λ a f. kilter_number K (reduced K ps a) a f) arcs fs i g a l at
+
+    gap_set : (fs : List ℤ) (i : ℕ) (g : ℤ) (a : Arc C) → length fs ≡ length arcs → IsAt arcs i a → excess arcs (set fs i g) + outside a (get_or fs i (pos 0)) ≡ excess arcs fs + outside a g
+    gap_set fs i g a l at = over_set naturals outside arcs fs i g a l at
+
     step_eased : (x : ℤ) (s : Step) (fs : List ℤ) (m : ℕ) → length fs ≡ length arcs → Leads arcs s m → HasRoom K ps arcs x fs s → Eased x s.node m fs (set fs s.arc (moved x s fs))
-    step_eased x s fs m l (a, at, p, q) room = record {
-      numbers = omega (arith, n, eases.number_falls);
-      gaps = omega (arith, e, eases.gap_falls);
-      cheaper = λ same. subst (λ z. K.le z (K.plus (total (sums K) arcs fs) (K.times x (price K ps m))) ≡ true) (sym (step_cost x s fs a m l at p q))
-          (lower (total (sums K) arcs fs) (K.times y (reduced K ps a)) (K.times x (price K ps m)) (wanted_le (reduced K ps a) f y (eases.wanted (omega (arith, e, same)))));
-    }
-      where
-        y : ℤ
-        y = cond s.along x (neg_ℤ x)
-
-        f : ℤ
-        f = get_or fs s.arc (pos 0)
-
-        g : ℤ
-        g = moved x s fs
-
-        eases : Eases (K.le K.zero (reduced K ps a)) (K.le (reduced K ps a) K.zero) a.lo a.hi f g
-        eases = arc_eases a s.along f g (room a at)
-
-        n : kilter_sum K ps arcs (set fs s.arc g) + kilter_number K (reduced K ps a) a f ≡ kilter_sum K ps arcs fs + kilter_number K (reduced K ps a) a g
-        n = over_set naturals (λ a f. kilter_number K (reduced K ps a) a f) arcs fs s.arc g a l at
-
-        e : excess arcs (set fs s.arc g) + outside a f ≡ excess arcs fs + outside a g
-        e = over_set naturals outside arcs fs s.arc g a l at
+    step_eased x s fs m l (a, at, p, q) room =
+        let y : ℤ = cond s.along x (neg_ℤ x) in
+        let f : ℤ = get_or fs s.arc (pos 0) in
+        let g : ℤ = moved x s fs in
+        let eases = arc_eases a s.along f g (room a at) in
+        let n = number_set fs s.arc g a l at in
+        let e = gap_set fs s.arc g a l at in
+        record {
+          numbers = omega (arith, n, eases.number_falls);
+          gaps = omega (arith, e, eases.gap_falls);
+          cheaper = λ same. subst (λ z. K.le z (K.plus (total (sums K) arcs fs) (K.times x (price K ps m))) ≡ true) (sym (step_cost x s fs a m l at p q))
+              (lower (total (sums K) arcs fs) (K.times y (reduced K ps a)) (K.times x (price K ps m)) (wanted_le (reduced K ps a) f y (eases.wanted (omega (arith, e, same)))));
+        }
 
     step_mended : (x : ℤ) (s : Step) (fs : List ℤ) (m : ℕ) → length fs ≡ length arcs → Leads arcs s m → HasRoom K ps arcs x fs s →
         ((a : Arc C) → IsAt arcs s.arc a → Amiss K ps a s.along (get_or fs s.arc (pos 0))) → Mended x s.node m fs (set fs s.arc (moved x s fs))
-    step_mended x s fs m l (a, at, p, q) room amiss = record { numbers = omega (arith, n, mends.number_less); better = go mends.wanted }
-      where
-        y : ℤ
-        y = cond s.along x (neg_ℤ x)
-
-        f : ℤ
-        f = get_or fs s.arc (pos 0)
-
-        g : ℤ
-        g = moved x s fs
-
-        u : Bool
-        u = K.le K.zero (reduced K ps a)
-
-        d : Bool
-        d = K.le (reduced K ps a) K.zero
-
-        mends : Mends u d a.lo a.hi f g
-        mends = arc_mends a s.along f g (room a at) (amiss a at)
-
-        eased : Eased x s.node m fs (set fs s.arc g)
-        eased = step_eased x s fs m l (a, at, p, q) room
-
-        n : kilter_sum K ps arcs (set fs s.arc g) + kilter_number K (reduced K ps a) a f ≡ kilter_sum K ps arcs fs + kilter_number K (reduced K ps a) a g
-        n = over_set naturals (λ a f. kilter_number K (reduced K ps a) a f) arcs fs s.arc g a l at
-
-        e : excess arcs (set fs s.arc g) + outside a f ≡ excess arcs fs + outside a g
-        e = over_set naturals outside arcs fs s.arc g a l at
-
-        xm : C
-        xm = K.times x (price K ps m)
-
-        go : (outside a g < outside a f) ⊎ (((f <ℤ g) × (u ≡ false)) ⊎ ((g <ℤ f) × (d ≡ false))) →
-            (excess arcs (set fs s.arc g) < excess arcs fs) ⊎ ((excess arcs (set fs s.arc g) ≤ excess arcs fs) × (K.le (K.plus (total (sums K) arcs fs) xm) (K.plus (total (sums K) arcs (set fs s.arc g)) (K.times x (price K ps s.node))) ≡ false))
-        go (inl falls) = inl (omega (arith, e, falls))
-        go (inr strict) = inr (
-          eased.gaps,
-          subst (λ z. K.le (K.plus (total (sums K) arcs fs) xm) z ≡ false) (sym (step_cost x s fs a m l at p q))
-              (lower_less (total (sums K) arcs fs) (K.times y (reduced K ps a)) xm (wanted_less (reduced K ps a) f y strict)),
-        )
+    step_mended x s fs m l (a, at, p, q) room amiss =
+        let f : ℤ = get_or fs s.arc (pos 0) in
+        let g : ℤ = moved x s fs in
+        let mends = arc_mends a s.along f g (room a at) (amiss a at) in
+        let e = gap_set fs s.arc g a l at in
+        record {
+          numbers = omega (arith, number_set fs s.arc g a l at, mends.number_less);
+          better = ⊎_elim
+              (λ falls. inl (omega (arith, e, falls)))
+              (λ strict. inr (
+                (step_eased x s fs m l (a, at, p, q) room).gaps,
+                subst (λ z. K.le (K.plus (total (sums K) arcs fs) (K.times x (price K ps m))) z ≡ false) (sym (step_cost x s fs a m l at p q))
+                    (lower_less (total (sums K) arcs fs) (K.times (cond s.along x (neg_ℤ x)) (reduced K ps a)) (K.times x (price K ps m)) (wanted_less (reduced K ps a) f (cond s.along x (neg_ℤ x)) strict)),
+              )) mends.wanted;
+        }
 
     eased_both : (x : ℤ) (n m k : ℕ) (f g h : List ℤ) → Eased x n m f g → Eased x m k g h → Eased x n k f h
     eased_both x n m k f g h p q = record {

@@ -1,5 +1,5 @@
 -- A running total where nothing is left to add, and within the limits.
-use Rattle.std.proofs.Common.{◌≡◌, ℕ, suc, ◌+◌, ◌*◌, ◌≤◌, ◌⊎◌, List, [], ◌∷◌, length, ℤ, Some, sym, refl, ap, ◌∙◌, inl, inr, arith}
+use Rattle.std.proofs.Common.{◌≡◌, ℕ, suc, ◌+◌, ◌*◌, ◌≤◌, ◌⊎◌, List, [], ◌∷◌, length, ℤ, Some, sym, refl, ap, ◌∙◌, arith}
 use Rattle.std.proofs.lemmas.Bool.{le-leb, cond-true}
 use Rattle.costs.specs.Kinds.{Kind, Sums, Laws, sums, answered, size_limit}
 use Rattle.networks.specs.declared.network.Arc.{Arc}
@@ -7,14 +7,12 @@ use Rattle.flows.specs.Fits.{Fitting, Small}
 use Rattle.flows.specs.Flows.{total, and_then, added, running_total}
 use Rattle.flows.proofs.Group.{assoc, left, right, size_zero}
 use Rattle.flows.proofs.Totalling.{size_multiple}
+use Rattle.flows.proofs.Turns.{at_none}
 
 module _ {C : Type 0} (S : Sums C) where
   -- no arc is left, or no flow
   pub running_all : (arcs : List (Arc C)) (flow : List ℤ) (s : C) → (arcs ≡ []) ⊎ (length flow ≡ 0) → running_total S s arcs flow ≡ Some s
-  running_all [] flow s e = refl
-  running_all (x ∷ xs) [] s e = refl
-  running_all (x ∷ xs) (f ∷ fs) s (inl e) = absurd (let l : length (x ∷ xs) ≡ 0 = ap length e in omega arith)
-  running_all (x ∷ xs) (f ∷ fs) s (inr e) = absurd (omega arith)
+  running_all arcs flow s = at_none (running_total S s) (Some s) (λ fs. refl) (λ x xs. refl) arcs flow
 
 module _ {C : Type 0} (K : Kind C) (laws : Laws K) where
   in_range : (c : C) → K.size c ≤ size_limit → answered K.size c ≡ Some c

@@ -13,12 +13,15 @@ pub next_first : {C : Type 0} (n : Net C) (i : ℕ) (r : Option (Arc C)) → i <
 next_first n i None h e = absurd (never_absent n i h e)
 next_first n i (Some x) h e = arc_first n i x e
 
--- no arc is left, or no flow
+-- no arc is left, or no flow: what goes over both gives what it gives for none
+pub at_none : {X Y : Type 0} (F : List X → List ℤ → Y) (y : Y) → ((flow : List ℤ) → F [] flow ≡ y) → ((x : X) (xs : List X) → F (x ∷ xs) [] ≡ y) → (arcs : List X) (flow : List ℤ) → (arcs ≡ []) ⊎ (length flow ≡ 0) → F arcs flow ≡ y
+at_none F y none short [] flow e = none flow
+at_none F y none short (x ∷ xs) [] e = short x xs
+at_none F y none short (x ∷ xs) (f ∷ fs) (inl e) = absurd (let l : length (x ∷ xs) ≡ 0 = ap length e in omega arith)
+at_none F y none short (x ∷ xs) (f ∷ fs) (inr e) = absurd (omega arith)
+
 pub over_none : {C M : Type 0} (none : M) (plus : M → M → M) (h : Arc C → ℤ → M) (arcs : List (Arc C)) (flow : List ℤ) → (arcs ≡ []) ⊎ (length flow ≡ 0) → over none plus h arcs flow ≡ none
-over_none none plus h [] flow e = refl
-over_none none plus h (x ∷ xs) [] e = refl
-over_none none plus h (x ∷ xs) (f ∷ fs) (inl e) = absurd (let l : length (x ∷ xs) ≡ 0 = ap length e in omega arith)
-over_none none plus h (x ∷ xs) (f ∷ fs) (inr e) = absurd (omega arith)
+over_none none plus h = at_none (over none plus h) none (λ fs. refl) (λ x xs. refl)
 
 -- a `next` of arcs beside flows that gave none
 pub none_left : {A B X : Type 0} {P : A → Type 0} {Q : B → Type 0} (arcs : List X) (flow : List ℤ) → ((a : A) × ((arcs ≡ []) × P a)) ⊎ ((b : B) × ((length flow ≡ 0) × Q b)) → (arcs ≡ []) ⊎ (length flow ≡ 0)

@@ -6,7 +6,7 @@ use Rattle.networks.specs.declared.network.Arc.{Arc}
 use Rattle.flows.specs.Flows.{Within}
 use Rattle.flows.specs.Kilter.{reduced, out_of_kilter, kilter_number}
 use Rattle.flows.proofs.Group.{off_on, le_refl}
-use Rattle.flows.proofs.Numbers.{off, number_zero, zero_number}
+use Rattle.flows.proofs.Numbers.{number_zero, zero_number}
 use Rattle.flows.proofs.Rooms.{Amiss}
 
 -- it wants to gain: flow < lo, or c < 0 with flow < hi
@@ -16,12 +16,6 @@ WantsMore K c a f = (f <ℤ a.lo) ⊎ ((K.le K.zero c ≡ false) × (f <ℤ a.hi
 -- it wants to lose: flow > hi, or c > 0 with flow > lo
 abbrev pub WantsLess : {C : Type 0} → Kind C → C → Arc C → ℤ → Type 0
 WantsLess K c a f = (a.hi <ℤ f) ⊎ ((K.le c K.zero ≡ false) × (a.lo <ℤ f))
-
-ways : (u d : Bool) (lo hi f : ℤ) → off u d lo hi f ≡ true → ((f <ℤ lo) ⊎ ((u ≡ false) × (f <ℤ hi))) ⊎ ((hi <ℤ f) ⊎ ((d ≡ false) × (lo <ℤ f)))
-ways u d lo hi f e = grind (arith, ints)
-
-pub out_ways : {C : Type 0} (K : Kind C) (c : C) (a : Arc C) (f : ℤ) → out_of_kilter K c a f ≡ true → WantsMore K c a f ⊎ WantsLess K c a f
-out_ways K c a f e = ways (K.le K.zero c) (K.le c K.zero) a.lo a.hi f e
 
 on_off : {X : Type 0} → true ≡ false → X
 on_off e = off_on (sym e)

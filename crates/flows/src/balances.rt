@@ -25,7 +25,7 @@ fn part(end: usize, node: usize, f: i32) -> i64
     ensures value { result ≡ (if nat_eq end node then f else pos 0) }
     ensures bound { unsigned_abs result ≤ 2147483648 }
 {
-    if end == node { f as i64 } else { 0 }
+    if end == node { i64::from(f) } else { 0 }
 }
 
 // A sum with what leaves added and what enters taken off.

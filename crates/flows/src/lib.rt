@@ -2,9 +2,10 @@
 //
 // specs/ defines imbalances, totals, kilter, laps, cuts, which stop comes first, and what the search owes
 // for each of its answers, also in words. Beside the definitions stand functions that equal them:
-// `first_stop`, `imbalance`, `imbalances`, `total`, `distance`, `reduced`, `amiss`. The functions of
-// `theorems` do nothing: the contract of each is a theorem, proved once for every cost kind. `Step` is one
-// step of a chain of arcs, which laps are made of.
+// `first_stop`, `imbalance`, `imbalances`, `total`, `distance`, `reduced`, `amiss`. `arcs_of` gives the arcs
+// of a network in turn, and `raise` changes prices for every search. The functions of `theorems` do
+// nothing: the contract of each is a theorem, proved once for every cost kind. `Step` is one step of a
+// chain of arcs, which laps are made of.
 //
 // Not promised here: how a least flow is found.
 #![tactic(auto)]

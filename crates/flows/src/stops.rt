@@ -15,14 +15,14 @@ use networks::{Arc, Bounds, Network, Stop};
 fn ends_fit(nodes: usize, from: usize, to: usize) -> bool
     ensures { result ≡ ((nat_le 1 from && nat_le from nodes) && (nat_le 1 to && nat_le to nodes)) }
 {
-    from != 0 && from <= nodes && to != 0 && to <= nodes
+    (1..=nodes).contains(&from) && (1..=nodes).contains(&to)
 }
 
 // Whether a bound or a flow is within the limits.
 fn in_limits(x: i32) -> bool
     ensures { result ≡ in_limits_of x }
 {
-    x >= -Bounds::LIMIT && x <= Bounds::LIMIT
+    (-Bounds::LIMIT..=Bounds::LIMIT).contains(&x)
 }
 
 // The first fault of one arc and what it carries.
@@ -59,7 +59,7 @@ fn arcs_fault<N: Network>(net: &N, flow: &[i32]) -> Result<(), Stop>
 fn meets(balance: i64, need: i32) -> bool
     ensures { result ≡ (int_le balance need && int_le need balance) }
 {
-    balance == need as i64
+    balance == i64::from(need)
 }
 
 // The first node whose imbalance differs from its need.
@@ -80,7 +80,7 @@ fn counts_fault<N: Network>(net: &N) -> Result<(), Stop>
     ensures { refusal result ≡ stop_unless (counts_fit (N.meaning net.now).nodes (length (N.meaning net.now).arcs)) 1 0 None }
 {
     let nodes = net.nodes();
-    if nodes == 0 || nodes > 256 || net.arcs() > 1024 {
+    if !(1..=256).contains(&nodes) || net.arcs() > 1024 {
         return Err(Stop::Counts);
     }
     Ok(())

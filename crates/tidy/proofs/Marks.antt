@@ -39,12 +39,6 @@ all_clear zero (suc m) = refl
 all_clear (suc n) zero = refl
 all_clear (suc n) (suc m) = ap suc (all_clear n m)
 
-pub front_long : (n m : ℕ) → n ≤ m → length (take n (replicate m false)) ≡ n
-front_long zero zero h = refl
-front_long zero (suc m) h = refl
-front_long (suc n) zero h = absurd (omega arith)
-front_long (suc n) (suc m) h = ap suc (front_long n m (omega arith))
-
 -- the first mark that is not set
 pub first_free : (ms : List Bool) → 1 ≤ unmarked ms → (unwrap_or (position not ms) 0 < length ms) × (get_or ms (unwrap_or (position not ms) 0) false ≡ false)
 first_free ms some =

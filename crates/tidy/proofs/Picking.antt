@@ -1,13 +1,14 @@
 -- The nearest slack, or where there is none any node that is not labelled, is a good pick.
 use Rattle.std.proofs.Common.{◌≡◌, ℕ, ◌+◌, ◌-◌, ◌<◌, ◌≤◌, Bool, true, false, cond, List, [], ◌∷◌, length, get_or, Some, None, Option, sym, refl, ap, ◌∙◌, subst, ap₂, arith}
 use Rattle.std.specs.List.{AllByRecursion}
+use Rattle.std.proofs.ByRecursion.{All-weaker}
 use Rattle.networks.specs.declared.network.Arc.{Arc}
 use Rattle.costs.specs.Kinds.{Kind, Laws}
 use Rattle.flows.proofs.Group.{size_zero, size_reduced, size_neg, size_minus}
 use Rattle.tidy.specs.declared.picks.Pick.{Pick}
-use Rattle.tidy.specs.Picks.{slack_of, nearest_of, picked, unmarked, GoodPick, labelled_at, Sound}
+use Rattle.tidy.specs.Picks.{slack_of, nearest_of, first_free_of, picked, unmarked, GoodPick, labelled_at, Sound}
 use Rattle.tidy.proofs.Order.{some_none, nearest_allows, nearest_is, nearest_none}
-use Rattle.tidy.proofs.Marks.{some_labelled_at}
+use Rattle.tidy.proofs.Marks.{some_labelled_at, first_free}
 use Rattle.flows.proofs.Nearer.{sign_raised, to_lands, from_lands, none_larger}
 use Rattle.flows.proofs.Shifts.{SmallInside}
 use Rattle.flows.specs.Kilter.{reduced, price, largest}
@@ -93,16 +94,25 @@ module _ {C : Type 0} (K : Kind C) (laws : Laws K) (ms : List Bool) (ps : List C
           lands_first = λ e. absurd (omega (arith, f.some));
         }
 
-    pub any_good : Bounded K price_limit ps → (i : ℕ) (far at : C) → at ≡ get_or ps i K.zero → far ≡ K.neg at → i < length ps → get_or ms i false ≡ false → None ≡ nearest_of K ps ms None arcs → GoodPick K arcs ms ps (picked i far)
-    any_good moderate i far at d e l m h = subst (λ z. GoodPick K arcs ms ps (picked i z)) (sym (e ∙ ap K.neg d)) (record {
-      inside = l;
-      free = m;
-      moderate = omega (arith, size_neg K laws (get_or ps i K.zero), moderate i l);
-      keeps = kept_all (K.neg (get_or ps i K.zero)) (all_both (λ a. slack_of K ps ms a ≡ None) (λ a. slack_of K ps ms a ≡ None) (λ a. (q : Pick C) → slack_of K ps ms a ≡ Some q → nearer K (K.neg (get_or ps i K.zero)) q.far ≡ true)
-          (λ a n _ q s. some_none (sym n ∙ s)) arcs (nearest_none K laws ps ms arcs None (sym h)).1 (nearest_none K laws ps ms arcs None (sym h)).1);
+    pub any_good : Bounded K price_limit ps → length ms ≡ length ps → 1 ≤ unmarked ms → None ≡ nearest_of K ps ms None arcs → GoodPick K arcs ms ps (first_free_of K ps ms)
+    any_good moderate alike some h = record {
+      inside = inside;
+      free = (first_free ms some).1;
+      moderate = omega (arith, size_neg K laws here, moderate i inside);
+      keeps = kept_all (K.neg here) (All-weaker (λ a. slack_of K ps ms a ≡ None) (λ a. (q : Pick C) → slack_of K ps ms a ≡ Some q → nearer K (K.neg here) q.far ≡ true)
+          (λ a n q s. some_none (sym n ∙ s)) arcs (nearest_none K laws ps ms arcs None (sym h)).1);
       lands = λ b k. omega (arith, zero_there);
       lands_first = λ e. zero_there;
-    })
+    }
       where
-        zero_there : K.size (K.plus (get_or ps i K.zero) (K.neg (get_or ps i K.zero))) ≡ 0
-        zero_there = ap K.size (laws.cancels (get_or ps i K.zero)) ∙ size_zero K laws
+        i : ℕ
+        i = (first_free_of K ps ms).place
+
+        here : C
+        here = get_or ps i K.zero
+
+        inside : i < length ps
+        inside = omega (arith, (first_free ms some).0, alike)
+
+        zero_there : K.size (K.plus here (K.neg here)) ≡ 0
+        zero_there = ap K.size (laws.cancels here) ∙ size_zero K laws

@@ -1,6 +1,7 @@
 -- The node that is labelled next, and by how much the prices of the nodes that are not yet labelled change.
-use Rattle.std.specs.Prelude.{◌≡◌, ℕ, suc, ◌+◌, ◌-◌, ◌*◌, ◌<◌, ◌≤◌, Bool, false, cond, List, [], ◌∷◌, length, get_or, Some, None, Option, slice_index_or}
-use Rattle.std.specs.List.{AllByRecursion}
+use Rattle.std.specs.Prelude.{◌≡◌, ℕ, suc, ◌+◌, ◌-◌, ◌*◌, ◌<◌, ◌≤◌, Bool, false, cond, not, List, [], ◌∷◌, length, get_or, Some, None, Option, slice_index_or}
+use Rattle.std.specs.List.{AllByRecursion, position}
+use Rattle.std.specs.Option.{unwrap_or}
 use Rattle.networks.specs.declared.network.Arc.{Arc}
 use Rattle.costs.specs.Kinds.{Kind}
 use Rattle.tidy.specs.declared.picks.Pick.{Pick}
@@ -41,6 +42,12 @@ chosen K (Some b) (Some p) = cond (nearer K b.far p.far) (Some b) (Some p)
 abbrev pub nearest_of : {C : Type 0} → Kind C → List C → List Bool → Option (Pick C) → List (Arc C) → Option (Pick C)
 nearest_of K ps ms best [] = best
 nearest_of K ps ms best (a ∷ rest) = nearest_of K ps ms (chosen K best (slack_of K ps ms a)) rest
+
+-- the first node that is not labelled, and the change that takes its price away
+abbrev pub first_free_of : {C : Type 0} → Kind C → List C → List Bool → Pick C
+first_free_of K ps ms =
+    let i = unwrap_or (position not ms) 0 in
+    picked i (K.neg (slice_index_or ps i K.zero))
 
 -- how many are not labelled
 abbrev pub unmarked : List Bool → ℕ

@@ -5,7 +5,7 @@ ghost use Rattle.std.specs.List.{position};
 ghost use Rattle.networks.specs.Nets.{shown};
 ghost use Rattle.flows.specs.Fits.{Fit, Fitting, Bounded, price_limit};
 ghost use Rattle.flows.specs.Prices.{nearer as is_nearer};
-ghost use Rattle.tidy.specs.Picks.{slack_of, chosen, nearest_of, unmarked, GoodPick};
+ghost use Rattle.tidy.specs.Picks.{slack_of, chosen, nearest_of, first_free_of, unmarked, GoodPick};
 
 use costs::CostKind;
 use flows::{arcs_of, opposite, price_at, reduced};
@@ -49,6 +49,13 @@ fn choose<C: CostKind>(best: Option<Pick<C>>, more: Option<Pick<C>>) -> Option<P
     Some(if nearer(b.far, p.far) { b } else { p })
 }
 
+// The first place with no mark.
+fn free_place(marks: &[bool]) -> Option<usize>
+    ensures { result ≡ position not marks.now }
+{
+    marks.iter().position(|m| !*m)
+}
+
 impl<N: Network> Marked<'_, N> {
     // How far the unlabelled prices have to rise for an arc between a labelled node and another to cost nothing.
     fn slack(&self, arc: Arc<N::Cost>) -> Option<Pick<N::Cost>>
@@ -80,25 +87,21 @@ impl<N: Network> Marked<'_, N> {
         best
     }
 
+    // The first node that is not labelled, which is brought to a price of zero.
+    fn first_free(&self) -> Pick<N::Cost>
+        requires { 1 ≤ unmarked self.now.marks.now }
+        ensures { result ≡ first_free_of N.Cost.CostKind.kind self.now.prices.now self.now.marks.now }
+    {
+        let place = free_place(self.marks).unwrap_or(0);
+        let far = opposite(price_at(self.prices, place + 1));
+        Pick { place, far }
+    }
+
     // The node to label next.
     pub fn next_pick(&self) -> Pick<N::Cost>
         requires { 1 ≤ unmarked self.now.marks.now }
         ensures { GoodPick N.Cost.CostKind.kind (shown (N.meaning self.now.net.now)) self.now.marks.now self.now.prices.now result }
     {
-        match self.nearest() {
-            Some(p) => p,
-            None => {
-                let place = first_free(self.marks).unwrap_or(0);
-                let far = opposite(price_at(self.prices, place + 1));
-                Pick { place, far }
-            }
-        }
+        self.nearest().unwrap_or_else(|| self.first_free())
     }
-}
-
-// The first place with no mark.
-fn first_free(marks: &[bool]) -> Option<usize>
-    ensures { result ≡ position not marks.now }
-{
-    marks.iter().position(|m| !*m)
 }

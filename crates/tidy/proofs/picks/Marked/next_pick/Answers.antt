@@ -1,24 +1,18 @@
-use Rattle.std.proofs.Common.{◌≡◌, ◌+◌, ◌-◌, ◌<◌, length, get_or, false, sym, ap, ◌∙◌, subst, arith}
-use Rattle.std.specs.Option.{unwrap_or}
+use Rattle.std.proofs.Common.{◌≡◌, ◌⊎◌, Some, None, sym, ◌∙◌, subst, ⊎_elim, rules}
 use Rattle.networks.specs.Nets.{shown}
-use Rattle.tidy.proofs.Marks.{first_free}
+use Rattle.tidy.specs.Picks.{first_free_of, GoodPick}
 use Rattle.tidy.proofs.Picking.{nearest_good, any_good}
 use Rattle.tidy.proofs.Sounds.{sound_from}
 use Rattle.tidy.proofs.picks.Marked.next_pick.Goals as goal
 
-pub returns-in-Some : goal.returns-in-Some
-returns-in-Some g c =
-    let s = c.args.self.now in
+pub returns : goal.returns
+returns g c =
     let K = g.N.Cost.CostKind.kind in
-    nearest_good K g.met.N.Cost.CostKind.lawful s.marks.now s.prices.now (shown (g.N.Network.meaning s.net.now)) (sound_from K _ _ s.fitting) s.moderate c.in-Some.p c.in-Some.ensures
-
-pub returns-in-None : goal.returns-in-None
-returns-in-None g c =
+    let laws = g.met.N.Cost.CostKind.lawful in
     let s = c.args.self.now in
-    let K = g.N.Cost.CostKind.kind in
-    let i = c.unwrap_or-place.result in
-    let is = c.unwrap_or-place.ensures ∙ ap (λ o. unwrap_or o 0) c.first_free.ensures in
-    let free = subst (λ k. (k < length s.marks.now) × (get_or s.marks.now k false ≡ false)) (sym is) (first_free s.marks.now c.requires) in
-    let same : i + 1 - 1 ≡ i = omega arith in
-    any_good K g.met.N.Cost.CostKind.lawful s.marks.now s.prices.now (shown (g.N.Network.meaning s.net.now)) (sound_from K _ _ s.fitting) s.moderate
-    i c.opposite-far.result c.price_at.result (c.price_at.ensures.value ∙ ap (λ k. get_or s.prices.now k K.zero) same) c.opposite-far.ensures.value (omega (arith, free.0, s.alike)) free.1 c.in-None.ensures
+    let arcs = shown (g.N.Network.meaning s.net.now) in
+    let sound = sound_from K _ arcs s.fitting in
+    let which : (Some c.unwrap_or_else.result ≡ c.nearest.result) ⊎ ((None ≡ c.nearest.result) × (c.unwrap_or_else.result ≡ first_free_of K s.prices.now s.marks.now)) = search rules in
+    ⊎_elim
+    (λ near. nearest_good K laws s.marks.now s.prices.now arcs sound s.moderate c.unwrap_or_else.result (near ∙ c.nearest.ensures))
+    (λ free. subst (GoodPick K arcs s.marks.now s.prices.now) (sym free.1) (any_good K laws s.marks.now s.prices.now arcs sound s.moderate s.alike c.requires (free.0 ∙ c.nearest.ensures))) which
