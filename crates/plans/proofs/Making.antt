@@ -25,6 +25,11 @@ plain_makes K p q places c y o is same keeps = (subst (λ x. Keeps K p (event c 
     kept true xs e = sym e
     kept false xs e = refl
 
+-- the outcome that an answer comes to, in the words of events
+pub done_is : {C : Type 0} (r : Result (Unit {0}) Stop) → came {C = C} (done_as r) ≡ done_came r
+done_is (Ok x) = refl
+done_is (Err s) = refl
+
 -- a call through the ring: b says whether the tags suffice, s what stops the call
 module _ {C : Type 0} (K : Kind C) (n m due : Net C) (t : Tables C) (places after put : List ℕ) (c : Asked C) (s : Option Told) (put_is : retagged places c ≡ put) where
   abbrev here : State C

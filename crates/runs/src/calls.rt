@@ -1,5 +1,6 @@
 // The calls on a plan, as a list can hold them, and their outcomes.
 
+ghost use Rattle.std.specs.Prelude.{◌≡◌};
 ghost use Rattle.runs.specs.Outcomes.{settled_as, done_as};
 
 use networks::{Bounds, Stop};
