@@ -9,6 +9,7 @@ use Rattle.networks.specs.Nets.{Net}
 use Rattle.flows.specs.Settles.{Tables}
 use Rattle.runs.specs.declared.calls.Call.{Call}
 use Rattle.runs.specs.declared.calls.Outcome.{Outcome}
+use Rattle.runs.specs.Outcomes.{done_as}
 use Rattle.runs.specs.States.{State}
 use Rattle.runs.specs.Events.{Asked, Came, is_granted, Event, event, asked, came, events}
 use Rattle.runs.specs.Steps.{Steps}

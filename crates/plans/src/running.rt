@@ -10,6 +10,14 @@ use costs::CostKind;
 use networks::{Network, Stop, TagRing};
 use runs::{Call, Outcome};
 
+// Writes an outcome.
+fn note<C: Copy>(outcomes: &mut [Outcome<C>], i: usize, outcome: Outcome<C>)
+    requires { i < length outcomes.old }
+    ensures { outcomes.new ≡ slice_set outcomes.old i outcome }
+{
+    outcomes[i] = outcome;
+}
+
 // Makes the calls in order, and says how many it made; it ends early only where outcomes or tags run short.
 fn make_all<N: Network>(
     net: &mut N,
@@ -31,7 +39,7 @@ fn make_all<N: Network>(
         let Some(outcome) = make(net, flow, needs, prices, marks, tags, offers, *call) else {
             return i;
         };
-        outcomes[i] = outcome;
+        note(outcomes, i, outcome);
     }
     calls.len()
 }

@@ -19,5 +19,4 @@ pub use calls::{Call, Outcome};
 // Any chain of steps from a new plan keeps the law.
 pub fn steps_make_a_run<C: CostKind>()
     ensures { StepsMakeARun C.CostKind.kind }
-{
-}
+{}

@@ -13,7 +13,7 @@ returns-in_err-open g c =
     let q = state n c.args.flow.now c.open.new.needs c.args.prices.now c.args.marks.now in
     let out = err_from_is_err_and c.from_residual.result c.from_residual.ensures.1 in
     subst (λ r. SettlesNew g.N.Cost.CostKind.kind p c.args.budget r q) (sym (out.1 ∙ ap Err out.2))
-        (new_refused g.N.Cost.CostKind.kind p c.args.budget c.in_err-open.field-0.0 q h.stops h.leaves)
+    (new_refused g.N.Cost.CostKind.kind p c.args.budget c.in_err-open.field-0.0 q h.stops h.leaves)
 
 pub returns : goal.returns
 returns g c =

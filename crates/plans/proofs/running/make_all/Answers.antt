@@ -7,6 +7,9 @@ pub loop-i-init : goal.loop-i-init
 loop-i-init g c =
     done_start g.N.Cost.CostKind.kind (state (g.N.Network.meaning c.args.net.now) c.args.flow.now c.args.needs.now c.args.prices.now c.args.marks.now) c.args.tags.now.places c.args.offers.now c.args.calls.now c.args.outcomes.now
 
+pub note-requires : goal.note-requires
+note-requires g c = c.if-i-outcomes.false
+
 pub returns-then-i-outcomes : goal.returns-then-i-outcomes
 returns-then-i-outcomes g c =
     done_full g.N.Cost.CostKind.kind (state (g.N.Network.meaning c.args.net.now) c.args.flow.now c.args.needs.now c.args.prices.now c.args.marks.now) (state (g.N.Network.meaning c.loop-i.net) c.loop-i.flow c.args.needs.now c.loop-i.prices c.loop-i.marks)

@@ -1,4 +1,4 @@
-use Rattle.std.proofs.Common.{Some, get_or, pos, sym, ap, ◌∙◌}
+use Rattle.std.proofs.Common.{get_or, pos, sym, ap, ◌∙◌}
 use Rattle.networks.specs.Nets.{shown}
 use Rattle.flows.specs.Kilter.{reduced, way}
 use Rattle.search.proofs.Choosing.{wanted_is}

@@ -29,7 +29,7 @@ returns-in_err-laps g c =
     let e = subst (Ended K n.nodes (shown n) found (c.loop-i.i + 1) c.args.budget c.bring_in.new.flow c.bring_in.new.prices c.loop-i.marks c.bring_in.new.marks) c.in_err-laps.was (c.bring_in.ensures found inv.0) in
     let p = err_from_is_err_and c.from_residual.result c.from_residual.ensures.1 in
     subst (Ended K n.nodes (shown n) found (length found) c.args.budget c.bring_in.new.flow c.bring_in.new.prices c.args.marks.now c.bring_in.new.marks) (sym (p.1 ∙ ap Err p.2))
-        (ended_early K n.nodes (shown n) found (c.loop-i.i + 1) (length found) c.args.budget c.bring_in.new.flow c.bring_in.new.prices c.args.marks.now c.loop-i.marks c.bring_in.new.marks c.in_err-laps.field-0.0 inv.2 e)
+    (ended_early K n.nodes (shown n) found (c.loop-i.i + 1) (length found) c.args.budget c.bring_in.new.flow c.bring_in.new.prices c.args.marks.now c.loop-i.marks c.bring_in.new.marks c.in_err-laps.field-0.0 inv.2 e)
 
 pub returns : goal.returns
 returns g c =

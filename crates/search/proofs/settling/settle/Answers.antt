@@ -1,7 +1,6 @@
 use Rattle.std.proofs.Common.{ℕ, ◌-◌, ◌*◌, ◌^◌, ◌<◌, length, get_or, take, Ok, Err, sym, ap, ◌∙◌, subst, arith, rules}
 use Rattle.networks.specs.Nets.{shown}
 use Rattle.networks.proofs.Shown.{length_shown}
-use Rattle.flows.specs.Fits.{Fitting}
 use Rattle.flows.proofs.Fitted.{no_stop}
 use Rattle.search.specs.Going.{Going, Ended}
 use Rattle.flows.specs.Settles.{LeastLeft, PausedLeft}
