@@ -1,6 +1,6 @@
 // The hour chain: a network of hours whose bounds and costs are kept in a lent table, and whose ends are worked out.
 
-ghost use Rattle.std.specs.Prelude.{◌≡◌, ℕ, ◌-◌, ◌<◌, length, refl};
+ghost use Rattle.std.specs.Prelude.{◌≡◌, ℕ, ◌+◌, ◌-◌, length, refl};
 ghost use Rattle.networks.specs.Answers.{answer, said};
 ghost use Rattle.hours.specs.Hours.{chain_stop, chain_net, hours_net, hour_of as the_hour_of, source_of, ends, hour_arc};
 
@@ -31,20 +31,18 @@ pub struct HourRow<C> {
     pub cost: C,
 }
 
-// The hour of arc a.
-fn hour_of(a: usize) -> usize
-    requires { 0 < a }
-    ensures { result ≡ the_hour_of a }
+// The hour of the arc at a place, counted from 0.
+fn hour_of(i: usize) -> usize
+    ensures { result ≡ the_hour_of (i + 1) }
 {
-    1 + (a - 1) / ARCS
+    1 + i / ARCS
 }
 
-// The source of arc a.
-fn source_of(a: usize) -> Source
-    requires { 0 < a }
-    ensures { result ≡ source_of a }
+// The source of the arc at a place.
+fn source_of(i: usize) -> Source
+    ensures { result ≡ source_of (i + 1) }
 {
-    match (a - 1) % ARCS {
+    match i % ARCS {
         0 => Source::Sun,
         1 => Source::Mains,
         2 => Source::Generator,
@@ -53,16 +51,15 @@ fn source_of(a: usize) -> Source
     }
 }
 
-// Where arc a runs from and to over so many nodes, of which the last is what lies outside the hours; the last
-// hour's battery leads back to the first hour.
-fn ends(nodes: usize, a: usize) -> (usize, usize)
-    requires { 0 < a }
-    ensures { result ≡ ends (nodes - 1) (the_hour_of a) (source_of a) }
+// Where the arc at a place runs from and to over so many nodes, of which the last is what lies outside the hours;
+// the last hour's battery leads back to the first hour.
+fn ends(nodes: usize, i: usize) -> (usize, usize)
+    ensures { result ≡ ends (nodes - 1) (the_hour_of (i + 1)) (source_of (i + 1)) }
 {
     let last = nodes.saturating_sub(1);
     let outside = last + 1;
-    let hour = hour_of(a);
-    match source_of(a) {
+    let hour = hour_of(i);
+    match source_of(i) {
         Source::Sun | Source::Mains | Source::Generator => (outside, hour),
         Source::Lamp => (hour, outside),
         Source::Battery if hour == last => (hour, 1),
@@ -80,8 +77,8 @@ impl<C: CostKind> ArcRow for HourRow<C> {
 
     ghost loose = { λ n a r. refl };
 
-    fn as_arc(self, nodes: usize, a: usize) -> Arc<C> {
-        let (from, to) = ends(nodes, a);
+    fn as_arc(self, nodes: usize, i: usize) -> Arc<C> {
+        let (from, to) = ends(nodes, i);
         Arc {
             from,
             to,

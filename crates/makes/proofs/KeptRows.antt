@@ -96,8 +96,8 @@ module _ {R C : Type 0} (f : ℕ → R → Arc C) (nodes : ℕ) (rows : List R) 
       let e : i ≡ i + 1 - 1 = omega arith in
       subst (λ (m : ℕ). build (set rows i v) ≡ set (build rows) (m - 1) (f m v)) placed.0 (set_from f rows i v ∙ ap (λ j. set (build rows) j (f (i + 1) v)) e)
 
-  pub arc_there : (d : R) → Some (f a (row d)) ≡ arc_at (made rows) a
-  arc_there d = base_arc nodes (build rows) a (Some (f a (row d))) (reads d)
+  pub arc_there : (d : R) → Some (f (i + 1) (row d)) ≡ arc_at (made rows) a
+  arc_there d = subst (λ (m : ℕ). Some (f m (row d)) ≡ arc_at (made rows) a) (sym placed.0) (base_arc nodes (build rows) a (Some (f a (row d))) (reads d))
 
   module _ (free : (r : R) → (f a r).held ≡ false) where
     pub rebound_granted : (d : R) → None ≡ rebound_stop (made rows) a

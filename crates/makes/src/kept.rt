@@ -1,6 +1,6 @@
 // A network that is kept in lent rows, whatever its rows are: the arc table is one, and so is the hour chain.
 
-ghost use Rattle.std.specs.Prelude.{◌≡◌, ℕ, ◌<◌, false, []};
+ghost use Rattle.std.specs.Prelude.{◌≡◌, ℕ, ◌+◌, false, []};
 ghost use Rattle.networks.specs.declared.network.Arc.{Arc};
 ghost use Rattle.networks.specs.Answers.{refusal, unless};
 ghost use Rattle.networks.specs.Nets.{with_bounds, with_cost};
@@ -16,10 +16,9 @@ pub trait ArcRow: Copy {
 
     ghost arc_of: { ℕ → ℕ → Self → Arc Self.Cost };
 
-    // The arc that the row is as the a-th of a network of so many nodes.
-    fn as_arc(self, nodes: usize, a: usize) -> Arc<Self::Cost>
-        requires { 0 < a }
-        ensures { result ≡ arc_of nodes a self };
+    // The arc that the row is at a place, counted from 0, of a network of so many nodes.
+    fn as_arc(self, nodes: usize, i: usize) -> Arc<Self::Cost>
+        ensures { result ≡ arc_of nodes (i + 1) self };
 
     // The row with other bounds.
     fn rebound(self, b: Bounds) -> Self
@@ -74,7 +73,7 @@ impl<R: ArcRow> Network for Kept<'_, R> {
 
     fn arc(&self, a: usize) -> Option<Arc<R::Cost>> {
         let i = place_of(self.rows.len(), a)?;
-        Some(self.rows[i].as_arc(self.nodes, a))
+        Some(self.rows[i].as_arc(self.nodes, i))
     }
 
     fn rebound(&mut self, a: usize, b: Bounds) -> Result<(), Stop> {

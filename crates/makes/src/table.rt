@@ -28,7 +28,7 @@ impl<C: CostKind> ArcRow for Row<C> {
 
     ghost loose = { λ n a r. refl };
 
-    fn as_arc(self, _nodes: usize, _a: usize) -> Arc<C> {
+    fn as_arc(self, _nodes: usize, _i: usize) -> Arc<C> {
         Arc {
             from: self.from,
             to: self.to,
