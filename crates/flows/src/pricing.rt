@@ -1,4 +1,4 @@
-// Prices and reduced costs: the one place where the answers of cost operations are taken apart.
+// Prices and reduced costs, whose sums are within the kinds' range.
 
 ghost use Rattle.std.specs.Prelude.{◌≡◌, ℕ, ◌+◌, ◌<◌, ◌≤◌, Bool, length};
 ghost use Rattle.flows.specs.Fits.{Fit, Bounded, price_limit, change_limit};

@@ -12,15 +12,14 @@ use Rattle.labels.specs.Moves.{may}
 abbrev pub no_entry : Entry
 no_entry = record { node = 0; parent = 0; step = record { node = 0; arc = 0; along = false } }
 
--- the k-th labelled node
-abbrev pub entry_at : Labels → ℕ → Entry
-entry_at ls k = slice_index_or ls.entries.items k no_entry
-
 -- how many nodes are labelled
 abbrev pub count : Labels → ℕ
 count ls = length ls.entries.items
 
--- it is this node; and the place of a node: from 1 on, or 0
+-- the k-th labelled node, and the place of a node: from 1 on, or 0
+abbrev pub entry_at : Labels → ℕ → Entry
+entry_at ls k = slice_index_or ls.entries.items k no_entry
+
 abbrev pub node_at : Labels → ℕ → ℕ
 node_at ls k = (entry_at ls k).node
 

@@ -1,4 +1,4 @@
--- Networks that stand on no other: they have no lock-out, and show nothing where they are unfit.
+-- Networks that stand on no other: they are kept in rows, and have no lock-out.
 use Rattle.std.specs.Prelude.{ℕ, suc, ◌-◌, cond, ◌||◌, List, [], ◌∷◌, Some, None, Option, ◌==◌, nat_lt}
 use Rattle.networks.specs.declared.network.Arc.{Arc}
 use Rattle.networks.specs.Nets.{Net}

@@ -3,7 +3,8 @@
 // `Kept` keeps a network in lent rows, and amends them there; `ArcRow` says what a kind of rows owes for it.
 // Its meaning is its rows, with no arc held or fixed and no lock-out. `ArcTable` is the one whose rows have
 // their ends in them, and the hour chain (crate `hours`) is another. `ArcTable::check` says beforehand why a
-// table is unfit; one made of unfit parts all the same shows no node and no arc, so that every call on it stops.
+// table is unfit; one made by `ArcTable::new` of unfit parts all the same shows no node and no arc, so that every
+// call on it stops. `Kept::over` is told by its caller whether the parts are fit.
 #![tactic(auto)]
 
 mod kept;

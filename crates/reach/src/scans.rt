@@ -67,7 +67,7 @@ fn nearer<C: CostKind>(best: Option<Best<C>>, b: Best<C>) -> Best<C>
     }
 }
 
-// What the arc at i, which leads across that way, makes of the best so far; it ends the scan where it may move at once.
+// What an arc that leads across makes of the best so far; it ends the scan where it may move at once.
 fn sight<C: CostKind>(
     seen: Seen<C>,
     over: Crossing,
@@ -120,7 +120,7 @@ pub fn look_round<N: Network>(
     ControlFlow::Continue(best)
 }
 
-// Labels the far end of an arc at i that leads across that way.
+// Labels the far end of an arc that leads across.
 pub fn link<C: CostKind>(arc: Arc<C>, over: Crossing, labels: &mut Labels)
     requires ends { Ends 256 arc }
     requires near { Labelled labels.old (near arc over.along) }

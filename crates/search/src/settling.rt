@@ -65,7 +65,7 @@ pub struct Found<C> {
     pub total: C,
 }
 
-// Seeks, and adds up what the flow costs then.
+// Seeks, and adds up what the flow costs where one is found.
 fn search<N: Network>(
     net: &N,
     flow: &mut [i32],
