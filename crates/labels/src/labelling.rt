@@ -1,7 +1,7 @@
 // The labelling: nodes that a change of flow can reach from the source, each with the step that leads to it.
 
 ghost use Rattle.std.specs.Prelude.{◌≡◌, ℕ, ◌<◌, ◌≤◌, length, nat_lt};
-ghost use Rattle.networks.specs.Nets.{shown};
+ghost use Rattle.networks.specs.Nets.{shown, IsAt};
 ghost use Rattle.flows.specs.Flows.{Ends};
 ghost use Rattle.labels.specs.Good.{Begun, Good, Grown, count, entry_at, place_of, pushed, outward_at};
 
@@ -9,7 +9,7 @@ use crate::Aim;
 use crate::moves::{far_end, may};
 use arrayvec::ArrayVec;
 use costs::CostKind;
-use flows::Step;
+use flows::{Step, arcs_of};
 use networks::{Arc, Network};
 
 // A labelled node: the place of the node it was labelled from, and the step that leads here from there.
@@ -86,9 +86,9 @@ fn outward<C: CostKind>(arc: Arc<C>, node: usize, labels: &Labels) -> Option<boo
 }
 
 // Labels the far end of the arc at i, from the node at a place, where the arc may move there and the end is not labelled.
-fn extend<N: Network>(aim: &Aim<N>, i: usize, at: usize, labels: &mut Labels)
+fn extend<N: Network>(aim: &Aim<N>, i: usize, arc: Arc<N::Cost>, at: usize, labels: &mut Labels)
     requires good { Good N.Cost.CostKind.kind (shown (N.meaning aim.now.view.net.now)) aim.now.view.flow.now aim.now.view.prices.now aim.now.chosen.arc labels.old }
-    requires arc { i < length aim.now.view.flow.now }
+    requires arc { IsAt (shown (N.meaning aim.now.view.net.now)) i arc }
     requires place { at < count labels.old }
     ensures good { Good N.Cost.CostKind.kind (shown (N.meaning aim.now.view.net.now)) aim.now.view.flow.now aim.now.view.prices.now aim.now.chosen.arc labels.new }
     ensures grown { Grown labels.old labels.new }
@@ -96,7 +96,6 @@ fn extend<N: Network>(aim: &Aim<N>, i: usize, at: usize, labels: &mut Labels)
     if i == aim.chosen.arc {
         return;
     }
-    let arc = aim.view.arc(i);
     let node = labels.entry(at).node;
     let Some(along) = outward(arc, node, labels) else {
         return;
@@ -123,11 +122,11 @@ fn spread<N: Network>(aim: &Aim<N>, at: usize, labels: &mut Labels) -> bool
     ensures grown { Grown labels.old labels.new }
     ensures found { result ≡ nat_lt 0 (place_of labels.new aim.now.chosen.node) }
 {
-    for i in 0..aim.view.flow.len() {
+    for (i, arc) in arcs_of(aim.view.net).enumerate() {
         if labels.place(aim.chosen.node) > 0 {
-            break;
+            return true;
         }
-        extend(aim, i, at, labels);
+        extend(aim, i, arc, at, labels);
     }
     labels.place(aim.chosen.node) > 0
 }

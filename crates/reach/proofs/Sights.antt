@@ -1,6 +1,7 @@
 -- One arc more seen.
-use Rattle.std.proofs.Common.{◌≡◌, ℕ, ◌+◌, Bool, true, false, cond, List, get_or, ℤ, pos, Some, None, Option, sym, refl, ap, ◌∙◌, subst, ⊎_elim, arith}
+use Rattle.std.proofs.Common.{◌≡◌, ℕ, ◌+◌, Bool, true, false, cond, List, [], length, drop, get_or, ℤ, pos, Some, None, Option, sym, refl, ap, ◌∙◌, subst, ⊎_elim, arith}
 use Rattle.std.proofs.lemmas.Bool.{cases_eq}
+use Rattle.std.proofs.lemmas.List.{length-drop}
 use Rattle.costs.specs.Kinds.{Kind, Laws}
 use Rattle.flows.specs.Kilter.{reduced}
 use Rattle.networks.specs.Nets.{IsAt}
@@ -88,3 +89,10 @@ module _ {C : Type 0} (K : Kind C) (laws : Laws K) (arcs : List (Arc C)) (flow :
         go : (t : Bool) → may K prices a along (get_or flow n (pos 0)) ≡ t → Scanned K arcs flow prices chosen ls (n + 1) (cond t (Break (record { arc = n; along = along })) (Continue (best_of K (slack_at K (reduced K prices a) a along (get_or flow n (pos 0))) (record { arc = n; along = along }) best)))
         go true q = (a, record { other = other; is = is; leads = sym way }, q)
         go false q = rest (slack_at K (reduced K prices a) a along (get_or flow n (pos 0))) refl q
+
+  -- where no arc is left, all are seen
+  pub seen_all : (n : ℕ) (best : Option (Best C)) → drop n arcs ≡ [] → Sighted K arcs flow prices chosen ls n best → Sighted K arcs flow prices chosen ls (length arcs) best
+  seen_all n best none old =
+      let l = ap length none in
+      let few = length-drop n arcs in
+      record { shut = λ i h. old.shut i (omega (arith, h, l, few)); least = λ i h. old.least i (omega (arith, h, l, few)); found = old.found }

@@ -8,7 +8,7 @@ ghost use Rattle.labels.specs.Good.{Labelled, count, pushed};
 ghost use Rattle.reach.specs.Scans.{crossing_at, slack_at, nearer_of, sight_of, Sighted, Scanned, link_over};
 
 use costs::CostKind;
-use flows::{Seen, Step, opposite};
+use flows::{Seen, Step, arcs_of, opposite};
 use labels::{Aim, Entry, Labels, far_end, may};
 use networks::{Arc, Network};
 use std::ops::ControlFlow;
@@ -90,16 +90,16 @@ fn look<N: Network>(
     aim: &Aim<N>,
     labels: &Labels,
     i: usize,
+    arc: Arc<N::Cost>,
     best: Option<Best<N::Cost>>,
 ) -> ControlFlow<Crossing, Option<Best<N::Cost>>>
-    requires arc { i < length aim.now.view.flow.now }
+    requires arc { IsAt (shown (N.meaning aim.now.view.net.now)) i arc }
     requires sighted { Sighted N.Cost.CostKind.kind (shown (N.meaning aim.now.view.net.now)) aim.now.view.flow.now aim.now.view.prices.now aim.now.chosen.arc labels.now i best }
     ensures { Scanned N.Cost.CostKind.kind (shown (N.meaning aim.now.view.net.now)) aim.now.view.flow.now aim.now.view.prices.now aim.now.chosen.arc labels.now (i + 1) result }
 {
     if i == aim.chosen.arc {
         return ControlFlow::Continue(best);
     }
-    let arc = aim.view.arc(i);
     let Some(along) = way_across(arc, labels) else {
         return ControlFlow::Continue(best);
     };
@@ -114,8 +114,8 @@ pub fn look_round<N: Network>(
     ensures { Scanned N.Cost.CostKind.kind (shown (N.meaning aim.now.view.net.now)) aim.now.view.flow.now aim.now.view.prices.now aim.now.chosen.arc labels.now (length (shown (N.meaning aim.now.view.net.now))) result }
 {
     let mut best = None;
-    for i in 0..aim.view.flow.len() {
-        best = look(aim, labels, i, best)?;
+    for (i, arc) in arcs_of(aim.view.net).enumerate() {
+        best = look(aim, labels, i, arc, best)?;
     }
     ControlFlow::Continue(best)
 }

@@ -10,25 +10,28 @@ push-requires-clause-room g c =
     let v = c.args.aim.now.view in
     let K = g.N.Cost.CostKind.kind in
     let arcs = shown (g.N.Network.meaning v.net.now) in
-    let a = c.arc-arc.result in
+    let a = c.args.arc in
     let ls = c.args.labels.now in
     let along = c.in-Some.along in
     let out = outward_is a (node_at ls c.args.at) ls along (sym c.in-Some.is ∙ c.outward.ensures ∙ ap (λ z. outward_at a z.node ls) c.entry-node.ensures) in
     let moves = seen_may K arcs v.flow.now v.prices.now c.args.i c.see.result a along c.see.ensures.sees c.see.ensures.same (sym c.may.ensures ∙ c.if-may.true) in
-    new_room K arcs v.flow.now v.prices.now c.args.aim.now.chosen.arc c.args.aim.now.few ls c.requires.good c.args.at c.args.i c.requires.place c.if-i-aim.false a c.arc-arc.ensures.is c.arc-arc.ensures.fit along out.0 out.1 moves
+    new_room K arcs v.flow.now v.prices.now c.args.aim.now.chosen.arc c.args.aim.now.few ls c.requires.good c.args.at c.args.i c.requires.place c.if-i-aim.false a c.requires.arc (v.fitting c.args.i a c.requires.arc) along out.0 out.1 moves
+
+pub push-requires-clause-node : goal.push-requires-clause-node
+push-requires-clause-node g c = let fit = c.args.aim.now.view.fitting c.args.i c.args.arc c.requires.arc in search rules
 
 pub returns-then-may : goal.returns-then-may
 returns-then-may g c =
     let v = c.args.aim.now.view in
     let K = g.N.Cost.CostKind.kind in
     let arcs = shown (g.N.Network.meaning v.net.now) in
-    let a = c.arc-arc.result in
+    let a = c.args.arc in
     let ls = c.args.labels.now in
     let along = c.in-Some.along in
     let out = outward_is a (node_at ls c.args.at) ls along (sym c.in-Some.is ∙ c.outward.ensures ∙ ap (λ z. outward_at a z.node ls) c.entry-node.ensures) in
     let moves = seen_may K arcs v.flow.now v.prices.now c.args.i c.see.result a along c.see.ensures.sees c.see.ensures.same (sym c.may.ensures ∙ c.if-may.true) in
     let made : c.push.new.self ≡ pushed ls (record { node = far a along; parent = c.args.at; step = record { node = node_at ls c.args.at; arc = c.args.i; along = along } }) = search rules in
     record {
-      good = subst (Good K arcs v.flow.now v.prices.now c.args.aim.now.chosen.arc) (sym made) (new_good K arcs v.flow.now v.prices.now c.args.aim.now.chosen.arc c.args.aim.now.few ls c.requires.good c.args.at c.args.i c.requires.place c.if-i-aim.false a c.arc-arc.ensures.is c.arc-arc.ensures.fit along out.0 out.1 moves);
-      grown = subst (Grown ls) (sym made) (new_grown K arcs v.flow.now v.prices.now c.args.aim.now.chosen.arc c.args.aim.now.few ls c.requires.good c.args.at c.args.i c.requires.place c.if-i-aim.false a c.arc-arc.ensures.is c.arc-arc.ensures.fit along out.0 out.1 moves);
+      good = subst (Good K arcs v.flow.now v.prices.now c.args.aim.now.chosen.arc) (sym made) (new_good K arcs v.flow.now v.prices.now c.args.aim.now.chosen.arc c.args.aim.now.few ls c.requires.good c.args.at c.args.i c.requires.place c.if-i-aim.false a c.requires.arc (v.fitting c.args.i a c.requires.arc) along out.0 out.1 moves);
+      grown = subst (Grown ls) (sym made) (new_grown K arcs v.flow.now v.prices.now c.args.aim.now.chosen.arc c.args.aim.now.few ls c.requires.good c.args.at c.args.i c.requires.place c.if-i-aim.false a c.requires.arc (v.fitting c.args.i a c.requires.arc) along out.0 out.1 moves);
     }

@@ -1,7 +1,11 @@
+use Rattle.std.proofs.Common.{◌≡◌, drop}
 use Rattle.networks.specs.Nets.{shown}
 use Rattle.labels.specs.Good.{Good, Grown}
 use Rattle.labels.proofs.labelling.spread.Given as goal
 
 abbrev pub invariant-loop-i : goal.invariant-loop-i
 invariant-loop-i g l =
-    Good g.N.Cost.CostKind.kind (shown (g.N.Network.meaning l.aim.view.net.now)) l.aim.view.flow.now l.aim.view.prices.now l.aim.chosen.arc l.labels × Grown l.initial.labels l.labels
+    let arcs = shown (g.N.Network.meaning l.aim.view.net.now) in
+    let left = l.i-iterator.iter in
+    (drop left.given (shown (g.N.Network.meaning left.net.now)) ≡ drop l.i-iterator.count arcs) ×
+    Good g.N.Cost.CostKind.kind arcs l.aim.view.flow.now l.aim.view.prices.now l.aim.chosen.arc l.labels × Grown l.initial.labels l.labels

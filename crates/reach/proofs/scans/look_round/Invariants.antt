@@ -1,6 +1,11 @@
+use Rattle.std.proofs.Common.{◌≡◌, drop}
 use Rattle.networks.specs.Nets.{shown}
 use Rattle.reach.specs.Scans.{Sighted}
 use Rattle.reach.proofs.scans.look_round.Given as goal
 
 abbrev pub invariant-loop-i : goal.invariant-loop-i
-invariant-loop-i g l = Sighted g.N.Cost.CostKind.kind (shown (g.N.Network.meaning l.aim.view.net.now)) l.aim.view.flow.now l.aim.view.prices.now l.aim.chosen.arc l.labels l.i l.best
+invariant-loop-i g l =
+    let arcs = shown (g.N.Network.meaning l.aim.view.net.now) in
+    let left = l.i-iterator.iter in
+    (drop left.given (shown (g.N.Network.meaning left.net.now)) ≡ drop l.i-iterator.count arcs) ×
+    Sighted g.N.Cost.CostKind.kind arcs l.aim.view.flow.now l.aim.view.prices.now l.aim.chosen.arc l.labels l.i-iterator.count l.best
