@@ -34,5 +34,5 @@ pub use theorems::{
     cut_shows_none, kept_signs_ease, kilter_is_least, kilter_sum_is_limited, kilter_sum_tells,
     laps_keep_imbalances,
 };
-pub use views::{Seen, View};
 pub use totals::{checked_total, total};
+pub use views::{Seen, View};
