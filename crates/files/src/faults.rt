@@ -3,13 +3,13 @@
 ghost use Rattle.std.specs.Prelude.{◌≡◌, ℕ, Some};
 ghost use Rattle.files.specs.Faults.{told, fault_text, stop_in, refusal_text};
 ghost use Rattle.files.specs.declared.faults.FileFault.TheVariants.{Line};
-ghost use Rattle.files.specs.declared.faults.ReadStop.TheVariants.{Fault};
+ghost use Rattle.files.specs.declared.faults.ReadStop.TheVariants.{Fault, Stop as StopRead};
 
 use networks::Stop;
 use std::fmt;
 use tokens::{Cause, LineFault};
 
-#[derive(Clone, Copy, Debug, PartialEq)]
+#[derive(Clone, Copy, Debug, PartialEq, Eq)]
 pub enum FileFault {
     Line(LineFault),
     // A byte after the last line, on this line.
@@ -95,7 +95,7 @@ impl fmt::Display for FileFault {
 }
 
 // Why a table is not read: a fault of the file, or a stop of the call.
-#[derive(Clone, Copy, Debug, PartialEq)]
+#[derive(Clone, Copy, Debug, PartialEq, Eq)]
 pub enum ReadStop {
     Fault(FileFault),
     Stop(Stop),
@@ -126,5 +126,13 @@ impl From<LineFault> for ReadStop {
 
     fn from(e: LineFault) -> ReadStop {
         ReadStop::Fault(FileFault::Line(e))
+    }
+}
+
+impl From<Stop> for ReadStop {
+    ghost from_gives = { λ e r. r ≡ StopRead e };
+
+    fn from(e: Stop) -> ReadStop {
+        ReadStop::Stop(e)
     }
 }

@@ -17,4 +17,4 @@ mod tables;
 
 pub use faults::{FileFault, ReadStop};
 pub use kinds::FileCost;
-pub use tables::{Header, MOST_ARCS, MOST_BYTES, read_header, read_table};
+pub use tables::{Header, MOST_BYTES, read_header, read_table};

@@ -9,19 +9,14 @@ use crate::faults::{FileFault, ReadStop};
 use crate::kinds::FileCost;
 use lines::Cursor;
 use makes::Row;
-use networks::Stop;
+use networks::{MOST_ARCS, MOST_NODES, Stop};
 use tokens::LineFault;
 
 // The most bytes of a file that a program takes.
 pub const MOST_BYTES: usize = 65_536;
 
-const MOST_NODES: usize = 256;
-
-// The most arcs of a network, and so the most rows of a file.
-pub const MOST_ARCS: usize = 1024;
-
 // The counts of the first line.
-#[derive(Clone, Copy, Debug, PartialEq)]
+#[derive(Clone, Copy, Debug, PartialEq, Eq)]
 pub struct Header {
     pub nodes: usize,
     pub arcs: usize,
@@ -53,8 +48,7 @@ pub fn read_header(text: &[u8]) -> Result<Header, FileFault>
     if text.len() > MOST_BYTES {
         return Err(FileFault::Long);
     }
-    let header = header_line(&mut Cursor::new(text), 1, 2)?;
-    Ok(header)
+    Ok(header_line(&mut Cursor::new(text), 1, 2)?)
 }
 
 // Looks at a line for each arc.
@@ -106,7 +100,7 @@ pub fn read_table<C: FileCost>(text: &[u8], rows: &mut [Row<C>]) -> Result<Heade
     let mut cursor = Cursor::new(text);
     let header = header_line(&mut cursor, tiers, tiers)?;
     if header.arcs > rows.len() {
-        return Err(ReadStop::Stop(Stop::Lengths));
+        return Err(Stop::Lengths.into());
     }
     check_body::<C>(cursor.again(), header)?;
     read_rows(&mut cursor, header.nodes, &mut rows[..header.arcs])?;

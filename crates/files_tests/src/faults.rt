@@ -1,7 +1,7 @@
 // Files with a fault: each with the line, the place and the cause that are told.
 
 use costs::{Plain, TwoTier};
-use files::{FileCost, ReadStop, read_header, read_table};
+use files::{FileCost, FileFault, Header, ReadStop, read_header, read_table};
 use makes::Row;
 use networks::Stop;
 use std::alloc::AllocError;
@@ -16,11 +16,16 @@ const TWO: &str = "(net (nodes 3) (arcs 1) (tiers 2))\n";
 // A text, and the place and the cause of its fault.
 type Case = (&'static str, usize, u8);
 
-fn told<C: FileCost>(text: &[u8], rows: &mut [Row<C>]) -> (usize, usize, u8) {
-    match read_table(text, rows) {
-        Err(ReadStop::Fault(fault)) => (fault.line(), fault.place(), fault.cause()),
-        _ => (0, 0, 0),
+// The fault that reading ended with, if it did.
+pub fn fault_of(read: Result<Header, ReadStop>) -> Option<FileFault> {
+    match read {
+        Err(ReadStop::Fault(fault)) => Some(fault),
+        _ => None,
     }
+}
+
+fn told<C: FileCost>(text: &[u8], rows: &mut [Row<C>]) -> Option<(usize, usize, u8)> {
+    fault_of(read_table(text, rows)).map(|fault| (fault.line(), fault.place(), fault.cause()))
 }
 
 // The fault is the one that is due, and the rows are as they were.
@@ -37,7 +42,7 @@ fn refused<C: FileCost>(
         cost: C::of_tiers(7, 7),
     };
     let mut rows = vec![in rt.alloc(); blank; 2]?;
-    assert_eq!(rt; told(text.as_bytes(), &mut rows), due, "{}", text);
+    assert_eq!(rt; told(text.as_bytes(), &mut rows), Some(due), "{}", text);
     assert_eq!(rt; (rows[0].from, rows[1].from), (7, 7), "{}", text);
     Ok(())
 }
@@ -233,9 +238,7 @@ fn stops(rt: HostRuntime) -> Result<(), Fail> {
         hi: 7,
         cost: Plain { units: 7 },
     }];
-    let Err(ReadStop::Fault(fault)) = read_table(text.as_bytes(), &mut rows) else {
-        return Err(Fail::new("no fault"));
-    };
+    let fault = fault_of(read_table(text.as_bytes(), &mut rows)).ok_or("no fault")?;
     assert_eq!(rt; fault.stop(), Some(Stop::Bounds(0)));
     let fault = read_header("(net".as_bytes()).err().ok_or("no fault")?;
     assert_eq!(rt; fault.stop(), None);

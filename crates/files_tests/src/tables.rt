@@ -1,5 +1,6 @@
 // Files that are read.
 
+use crate::faults::fault_of;
 use costs::{Plain, TwoTier};
 use files::{Header, ReadStop, read_header, read_table};
 use makes::Row;
@@ -124,12 +125,8 @@ fn too_few_rows(rt: HostRuntime) -> Result<(), Fail> {
         read_table(faulty.as_bytes(), &mut rows),
         Err(ReadStop::Stop(Stop::Lengths))
     );
-    let Err(ReadStop::Fault(fault)) = read_table(
-        "(net (nodes 1) (arcs 4) (tiers 1))".as_bytes(),
-        &mut rows,
-    ) else {
-        return Err(Fail::new("no fault"));
-    };
+    let early = "(net (nodes 1) (arcs 4) (tiers 1))";
+    let fault = fault_of(read_table(early.as_bytes(), &mut rows)).ok_or("no fault")?;
     assert_eq!(rt; (fault.line(), fault.place(), fault.cause()), (1, 35, 4));
     Ok(())
 }

@@ -4,12 +4,11 @@ use costs::Plain;
 use hours::{HourChain, HourRow};
 use layers::Closing;
 use makes::ArcTable;
-use networks::Lockout;
+use networks::{Lockout, Stop};
 use runs::{Call, Outcome};
+use search::Answer;
 use std::test::Fail;
-use tests_kit::{
-    FULL, ZERO, bounds, is_done, is_least, is_none, is_refused, row, run_all, triangle,
-};
+use tests_kit::{FULL, ZERO, bounds, is_least, row, run_all, triangle};
 
 #[test]
 fn closing_in_a_pile(rt: HostRuntime) -> Result<(), Fail> {
@@ -37,10 +36,10 @@ fn closing_in_a_pile(rt: HostRuntime) -> Result<(), Fail> {
     assert_eq!(rt; made, 9);
     assert!(rt; is_least(outcomes[0], -36));
     assert!(rt; is_least(outcomes[2], 0));
-    assert!(rt; is_refused(outcomes[3], 12, 1));
-    assert!(rt; is_done(outcomes[4]));
-    assert!(rt; is_refused(outcomes[5], 8, 2));
-    assert!(rt; is_done(outcomes[6]));
+    assert_eq!(rt; outcomes[3], Outcome::Refused(Stop::NotOut(1)));
+    assert_eq!(rt; outcomes[4], Outcome::Done);
+    assert_eq!(rt; outcomes[5], Outcome::Refused(Stop::Absent(2)));
+    assert_eq!(rt; outcomes[6], Outcome::Done);
     assert!(rt; is_least(outcomes[8], -36));
     assert_eq!(rt; flow, [4, 4, 4, 4]);
     Ok(())
@@ -65,8 +64,8 @@ fn triangle_in_a_pile(rt: HostRuntime) -> Result<(), Fail> {
     let mut prices = [ZERO; 5];
     let made = run_all(&mut net, &mut flow, &mut prices, &[], &calls, &mut outcomes)?;
     assert_eq!(rt; made, 7);
-    assert!(rt; is_none(outcomes[1]));
-    assert!(rt; is_none(outcomes[4]));
+    assert_eq!(rt; outcomes[1], Outcome::Settled(Answer::None));
+    assert_eq!(rt; outcomes[4], Outcome::Settled(Answer::None));
     assert!(rt; is_least(outcomes[6], 19));
     assert_eq!(rt; flow, [5, 5, 1, 6, 0]);
     Ok(())
@@ -119,7 +118,7 @@ fn two_hours_alone(rt: HostRuntime) -> Result<(), Fail> {
     let made = run_all(&mut net, &mut flow, &mut prices, &[], &calls, &mut outcomes)?;
     assert_eq!(rt; made, 4);
     assert!(rt; is_least(outcomes[0], 15));
-    assert!(rt; is_none(outcomes[3]));
+    assert_eq!(rt; outcomes[3], Outcome::Settled(Answer::None));
     assert_eq!(rt; flow, [5, 0, 0, 2, 4, 0, 3, 0, 6, 1]);
     Ok(())
 }
@@ -140,7 +139,7 @@ fn hours_in_a_pile(rt: HostRuntime) -> Result<(), Fail> {
     let mut prices = [ZERO; 5];
     let made = run_all(&mut net, &mut flow, &mut prices, &[], &calls, &mut outcomes)?;
     assert_eq!(rt; made, 4);
-    assert!(rt; is_none(outcomes[1]));
+    assert_eq!(rt; outcomes[1], Outcome::Settled(Answer::None));
     assert!(rt; is_least(outcomes[3], 15));
     assert_eq!(rt; flow, [5, 0, 0, 2, 4, 0, 3, 0, 6, 1, 0]);
     Ok(())

@@ -51,6 +51,6 @@ pub fn print_answer<C: FileCost>(
             println!(rt; "(none)")?;
             print_cut(rt, marks)
         }
-        Err(stop) => print_refusal(rt, ReadStop::Stop(stop)),
+        Err(stop) => print_refusal(rt, stop.into()),
     }
 }

@@ -6,8 +6,9 @@ mod answers;
 
 use answers::{print_answer, print_refusal};
 use costs::{CostKind, Plain, TwoTier};
-use files::{FileCost, MOST_ARCS, MOST_BYTES, ReadStop, read_header, read_table};
+use files::{FileCost, MOST_BYTES, read_header, read_table};
 use makes::{ArcTable, Row};
+use networks::MOST_ARCS;
 use search::settle;
 use std::io;
 use std::io::Read;
@@ -52,6 +53,6 @@ fn main(rt: HostRuntime) -> io::Result<()> {
     match read_header(&text) {
         Ok(header) if header.tiers == 2 => settle_file::<TwoTier>(&rt, &text),
         Ok(_) => settle_file::<Plain>(&rt, &text),
-        Err(fault) => print_refusal(&rt, ReadStop::Fault(fault)),
+        Err(fault) => print_refusal(&rt, fault.into()),
     }
 }

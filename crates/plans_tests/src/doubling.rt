@@ -8,7 +8,7 @@ use costs::TwoTier;
 use makes::{ArcTable, Row};
 use runs::{Call, Outcome};
 use search::Answer;
-use std::alloc::{AllocFailed, Global};
+use std::alloc::{AllocError, Global};
 use std::test::Fail;
 use tests_kit::{FULL, run_all};
 
@@ -38,16 +38,16 @@ fn measured(stage: usize, place: usize) -> Row<TwoTier> {
     arc(2 * i - 4, 2 * i + j, 0, -4 - less, second)
 }
 
-fn stages(heap: Global) -> Result<Vec<Row<TwoTier>>, AllocFailed<Row<TwoTier>>> {
+fn stages(heap: Global) -> Result<Vec<Row<TwoTier>>, AllocError> {
     let mut rows = Vec::new(heap);
-    for i in 1..51 {
+    for i in 1..=STAGES {
         rows.push(measured(i, 0))?;
         rows.push(measured(i, 1))?;
-        if i < 50 {
+        if i < STAGES {
             rows.push(arc(2 * i, 2 * i + 2, 1, 0, 0))?;
         }
     }
-    for i in 1..50 {
+    for i in 1..STAGES {
         rows.push(arc(2 * i + 2, 2 * i, 0, 1, 0))?;
         rows.push(arc(2 * i, 2 * i + 3, 0, -LARGE, 0))?;
         rows.push(arc(2 * i + 1, 2 * i + 2, 0, -LARGE, 0))?;
@@ -58,9 +58,7 @@ fn stages(heap: Global) -> Result<Vec<Row<TwoTier>>, AllocFailed<Row<TwoTier>>> 
 
 #[test]
 fn prices_stay_small(rt: HostRuntime) -> Result<(), Fail> {
-    let Ok(mut rows) = stages(rt.alloc()) else {
-        return Err(Fail::new("no memory"));
-    };
+    let mut rows = stages(rt.alloc())?;
     let mut net = ArcTable::new(101, 345, &mut rows);
     let calls = [Call::Settle { budget: FULL }];
     let mut outcomes = [Outcome::Done];

@@ -2,14 +2,12 @@
 
 use costs::{Plain, TwoTier};
 use makes::{ArcTable, Row};
-use networks::Lockout;
+use networks::{Lockout, Stop};
 use runs::{Call, Outcome};
 use search::Answer;
-use std::alloc::{AllocFailed, Global};
+use std::alloc::{AllocError, Global};
 use std::test::Fail;
-use tests_kit::{
-    FULL, ZERO, bounds, is_done, is_least, is_none, is_paused, is_refused, row, run_all, triangle,
-};
+use tests_kit::{FULL, ZERO, bounds, is_least, row, run_all, triangle};
 
 #[test]
 fn out_and_back(rt: HostRuntime) -> Result<(), Fail> {
@@ -33,10 +31,10 @@ fn out_and_back(rt: HostRuntime) -> Result<(), Fail> {
     let made = run_all(&mut net, &mut flow, &mut prices, &[], &calls, &mut outcomes)?;
     assert_eq!(rt; made, 6);
     assert!(rt; is_least(outcomes[0], 19));
-    assert!(rt; is_done(outcomes[1]));
-    assert!(rt; is_refused(outcomes[2], 9, 3));
-    assert!(rt; is_none(outcomes[3]));
-    assert!(rt; is_done(outcomes[4]));
+    assert_eq!(rt; outcomes[1], Outcome::Done);
+    assert_eq!(rt; outcomes[2], Outcome::Refused(Stop::Held(3)));
+    assert_eq!(rt; outcomes[3], Outcome::Settled(Answer::None));
+    assert_eq!(rt; outcomes[4], Outcome::Done);
     assert!(rt; is_least(outcomes[5], 19));
     assert_eq!(rt; flow, [5, 5, 1, 6]);
     Ok(())
@@ -78,8 +76,8 @@ fn other_bounds_and_costs(rt: HostRuntime) -> Result<(), Fail> {
     assert_eq!(rt; made, 6);
     assert!(rt; is_least(outcomes[1], 31));
     assert!(rt; is_least(outcomes[3], 19));
-    assert!(rt; is_refused(outcomes[4], 6, 1));
-    assert!(rt; is_refused(outcomes[5], 8, 5));
+    assert_eq!(rt; outcomes[4], Outcome::Refused(Stop::Imbalance(1)));
+    assert_eq!(rt; outcomes[5], Outcome::Refused(Stop::Absent(5)));
     assert_eq!(rt; flow, [5, 5, 4, 9]);
     Ok(())
 }
@@ -107,10 +105,10 @@ fn paused_and_gone_on(rt: HostRuntime) -> Result<(), Fail> {
         &mut outcomes,
     )?;
     assert_eq!(rt; made, 5);
-    assert!(rt; is_paused(outcomes[0], 0));
-    assert!(rt; is_paused(outcomes[1], 1));
+    assert_eq!(rt; outcomes[0], Outcome::Settled(Answer::Paused { laps: 0 }));
+    assert_eq!(rt; outcomes[1], Outcome::Settled(Answer::Paused { laps: 1 }));
     assert!(rt; is_least(outcomes[2], 19));
-    assert!(rt; is_done(outcomes[3]));
+    assert_eq!(rt; outcomes[3], Outcome::Done);
     assert!(rt; is_least(outcomes[4], 19));
     Ok(())
 }
@@ -129,13 +127,13 @@ fn two_nodes(rt: HostRuntime) -> Result<(), Fail> {
     flow = [6];
     let made = run_all(&mut net, &mut flow, &mut prices, &[], &calls, &mut outcomes)?;
     assert_eq!(rt; made, 1);
-    assert!(rt; is_none(outcomes[0]));
+    assert_eq!(rt; outcomes[0], Outcome::Settled(Answer::None));
     assert_eq!(rt; flow, [6]);
     Ok(())
 }
 
 // Sixteen lines are out, the next take-out finds none free, and all are handed back; the last call has no tag.
-fn seventeen(heap: Global) -> Result<Vec<Call<Plain>>, AllocFailed<Call<Plain>>> {
+fn seventeen(heap: Global) -> Result<Vec<Call<Plain>>, AllocError> {
     let mut calls = Vec::new(heap);
     for arc in 1..18 {
         calls.push(Call::TakeOut { layer: 1, arc })?;
@@ -150,17 +148,15 @@ fn seventeen(heap: Global) -> Result<Vec<Call<Plain>>, AllocFailed<Call<Plain>>>
 fn full_and_short(rt: HostRuntime) -> Result<(), Fail> {
     let mut rows = [row(1, 1, 0, 5, 1); 17];
     let mut net = Lockout::new(ArcTable::new(1, 17, &mut rows));
-    let Ok(calls) = seventeen(rt.alloc()) else {
-        return Err(Fail::new("no memory"));
-    };
+    let calls = seventeen(rt.alloc())?;
     let mut outcomes = [Outcome::Done; 34];
     let mut flow = [0; 17];
     let mut prices = [ZERO; 1];
     let made = run_all(&mut net, &mut flow, &mut prices, &[], &calls, &mut outcomes)?;
     assert_eq!(rt; made, 33);
-    assert!(rt; is_done(outcomes[15]));
-    assert!(rt; is_refused(outcomes[16], 11, 0));
-    assert!(rt; is_done(outcomes[32]));
+    assert_eq!(rt; outcomes[15], Outcome::Done);
+    assert_eq!(rt; outcomes[16], Outcome::Refused(Stop::Full));
+    assert_eq!(rt; outcomes[32], Outcome::Done);
     Ok(())
 }
 

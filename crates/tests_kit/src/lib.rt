@@ -1,9 +1,9 @@
-// What tests of runs share: a run over small tables, and questions about its outcomes. Only tests use it.
+// What tests of runs share: a run over small tables, and a question about its outcomes. Only tests use it.
 #![tactic(auto)]
 
 use costs::Plain;
 use makes::Row;
-use networks::{Bounds, Network, Stop, TagRing};
+use networks::{Bounds, Network, TagRing};
 use plans::run;
 use runs::{Call, Outcome};
 use search::Answer;
@@ -79,20 +79,4 @@ pub fn run_all<N: Network>(
 // The outcome is least with that total; the laps are told apart only where they are sure.
 pub fn is_least(o: Outcome<Plain>, units: i64) -> bool {
     matches!(o, Outcome::Settled(Answer::Least { total, laps: _ }) if total.units == units)
-}
-
-pub fn is_none(o: Outcome<Plain>) -> bool {
-    o == Outcome::Settled(Answer::None)
-}
-
-pub fn is_paused(o: Outcome<Plain>, laps: u32) -> bool {
-    o == Outcome::Settled(Answer::Paused { laps })
-}
-
-pub fn is_done(o: Outcome<Plain>) -> bool {
-    o == Outcome::Done
-}
-
-pub fn is_refused(o: Outcome<Plain>, number: u8, place: usize) -> bool {
-    matches!(o, Outcome::Refused(stop) if stop.number() == number && stop.place() == place)
 }

@@ -42,10 +42,7 @@ fn sign(s: &[u8]) -> usize
     ensures within { result ≤ length s.now }
     ensures is { result ≡ sign_of s.now }
 {
-    match s.first() {
-        Some(b'-') => 1,
-        _ => 0,
-    }
+    usize::from(s.starts_with(b"-"))
 }
 
 // The number at the front: a sign or none, then 1 to 7 digits, of which a zero stands alone.

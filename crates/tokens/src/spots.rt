@@ -6,14 +6,14 @@ ghost use Rattle.tokens.specs.Faults.{bounds_fault};
 use networks::Stop;
 
 // A byte of a file: its line, and its place in that line, both from 1.
-#[derive(Clone, Copy, Debug, PartialEq)]
+#[derive(Clone, Copy, Debug, PartialEq, Eq)]
 pub struct Spot {
     pub line: usize,
     pub place: usize,
 }
 
 // What can be wrong in a line.
-#[derive(Clone, Copy, Debug, PartialEq)]
+#[derive(Clone, Copy, Debug, PartialEq, Eq)]
 pub enum Cause {
     // A byte of no token.
     Byte,
@@ -30,13 +30,13 @@ pub enum Cause {
 }
 
 // Bounds that cannot be made: where the upper one stands, and the stop of their making.
-#[derive(Clone, Copy, Debug, PartialEq)]
+#[derive(Clone, Copy, Debug, PartialEq, Eq)]
 pub struct BoundsFault {
     pub spot: Spot,
     pub stop: Stop,
 }
 
-#[derive(Clone, Copy, Debug, PartialEq)]
+#[derive(Clone, Copy, Debug, PartialEq, Eq)]
 pub struct LineFault {
     pub spot: Spot,
     pub cause: Cause,
