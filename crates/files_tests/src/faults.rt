@@ -17,7 +17,7 @@ const TWO: &str = "(net (nodes 3) (arcs 1) (tiers 2))\n";
 type Case = (&'static str, usize, u8);
 
 // The fault that reading ended with, if it did.
-pub fn fault_of(read: Result<Header, ReadStop>) -> Option<FileFault> {
+pub(crate) fn fault_of(read: Result<Header, ReadStop>) -> Option<FileFault> {
     match read {
         Err(ReadStop::Fault(fault)) => Some(fault),
         _ => None,
