@@ -44,8 +44,8 @@ module _ {C : Type 0} (K : Kind C) (n m due : Net C) (t : Tables C) (places afte
     where
       go : (z : Option Told) (y : Result (Unit {0}) Stop) → said y ≡ answer z tt → after ≡ unless z places put → after ≡ cond (is_granted (done_came {C = C} y)) (retagged places c) places
       go None (Ok u) e l = l ∙ sym put_is
-      go (Some f) (Ok u) e l = absurd (let z : ◌≡◌ {A = ℕ} 0 1 = cc in omega arith)
-      go None (Err f) e l = absurd (let z : ◌≡◌ {A = ℕ} 0 1 = cc in omega arith)
+      go (Some f) (Ok u) e l = absurd cc
+      go None (Err f) e l = absurd cc
       go (Some f) (Err g) e l = l
 
   pub ring_makes : (b : Bool) (r : Option (Result (Unit {0}) Stop)) (o : Option (Outcome C)) → option_map came o ≡ option_map done_came r → option_map said r ≡ cond b (Some (answer s tt)) None →
@@ -54,11 +54,11 @@ module _ {C : Type 0} (K : Kind C) (n m due : Net C) (t : Tables C) (places afte
       let so : said x ≡ answer s tt = cc in
       let is : came y ≡ done_came x = cc in
       (subst (λ z. Keeps K here (event c z) there) (sym is) (keeps x so net-is), ring x so ring-is ∙ ap (λ z. cond (is_granted z) (retagged places c) places) (sym is))
-  ring_makes true (Some x) None came-so said-so net-is ring-is short keeps = absurd (let z : ◌≡◌ {A = ℕ} 0 1 = cc in omega arith)
-  ring_makes true None o came-so said-so net-is ring-is short keeps = absurd (let z : ◌≡◌ {A = ℕ} 0 1 = cc in omega arith)
+  ring_makes true (Some x) None came-so said-so net-is ring-is short keeps = absurd cc
+  ring_makes true None o came-so said-so net-is ring-is short keeps = absurd cc
   ring_makes false None None came-so said-so net-is ring-is short keeps = (short refl, ap (λ (k : Net C). record { net = k; tables = t }) net-is, ring-is)
-  ring_makes false None (Some y) came-so said-so net-is ring-is short keeps = absurd (let z : ◌≡◌ {A = ℕ} 0 1 = cc in omega arith)
-  ring_makes false (Some x) o came-so said-so net-is ring-is short keeps = absurd (let z : ◌≡◌ {A = ℕ} 0 1 = cc in omega arith)
+  ring_makes false None (Some y) came-so said-so net-is ring-is short keeps = absurd cc
+  ring_makes false (Some x) o came-so said-so net-is ring-is short keeps = absurd cc
 
 -- ---- lists of calls
 

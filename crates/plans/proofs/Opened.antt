@@ -21,11 +21,11 @@ pub record Opens {C : Type 0} (n : Net C) (flow : List ℤ) (needs : ℕ) : Type
 
 passed : (b : Bool) (n k : ℕ) (later : Option Told) → stop_unless b n k later ≡ None → (b ≡ true) × (later ≡ None)
 passed true n k later e = (refl, e)
-passed false n k later e = absurd (let z : ◌≡◌ {A = ℕ} 0 1 = cc in omega arith)
+passed false n k later e = absurd cc
 
 first_passed : (o : Option Told) → or_else o None ≡ None → o ≡ None
 first_passed None e = refl
-first_passed (Some s) e = absurd (let z : ◌≡◌ {A = ℕ} 0 1 = cc in omega arith)
+first_passed (Some s) e = absurd cc
 
 pub opens : {C : Type 0} (K : Kind C) (n : Net C) (flow : List ℤ) (needs prices marks : ℕ) → open_stop K.size n flow needs prices marks ≡ None → Opens n flow needs
 opens K n flow needs prices marks e =
@@ -72,13 +72,13 @@ pub due_answer : (s z : Option Told) → s ≡ z → answer {X = Unit {0}} s tt 
 due_answer s z e = ap (λ o. answer {X = Unit {0}} o tt) e
 
 pub never_ok : (s : Stop) → ◌≡◌ {A = Result (Unit {0}) Stop} (Err s) (Ok tt) → ⊥
-never_ok s e = let z : ◌≡◌ {A = ℕ} 0 1 = cc in omega arith
+never_ok s e = cc
 
 -- what an answer says of the stop
 pub refused_by : (s : Option Told) (t : Told) → Err t ≡ answer {X = Unit {0}} s tt → s ≡ Some t
-refused_by None t e = absurd (let z : ◌≡◌ {A = ℕ} 0 1 = cc in omega arith)
+refused_by None t e = absurd cc
 refused_by (Some s) t e = let h : s ≡ t = cc in ap Some h
 
 pub granted_by : (s : Option Told) (u : Unit {0}) → Ok u ≡ answer {X = Unit {0}} s tt → s ≡ None
 granted_by None u e = refl
-granted_by (Some s) u e = absurd (let z : ◌≡◌ {A = ℕ} 0 1 = cc in omega arith)
+granted_by (Some s) u e = absurd cc

@@ -22,41 +22,41 @@ due_came (Some s) = refused s
 
 pub done_due : {C X : Type 0} (r : Result X Stop) (s : Option Told) (x : X) → said r ≡ answer s x → done_came {C = C} r ≡ due_came s
 done_due (Ok y) None x e = refl
-done_due (Ok y) (Some s) x e = absurd (let z : ◌≡◌ {A = ℕ} 0 1 = cc in omega arith)
-done_due (Err t) None x e = absurd (let z : ◌≡◌ {A = ℕ} 0 1 = cc in omega arith)
+done_due (Ok y) (Some s) x e = absurd cc
+done_due (Err t) None x e = absurd cc
 done_due {C} {X} (Err t) (Some s) x e = let h : told t ≡ s = cc in ap refused h
 
 tagged_due : {C : Type 0} (r : Result Tag Stop) (s : Option Told) (a : ℕ) → said (tagged r) ≡ answer s a → done_came {C = C} r ≡ due_came s
 tagged_due (Ok y) None a e = refl
-tagged_due (Ok y) (Some s) a e = absurd (let z : ◌≡◌ {A = ℕ} 0 1 = cc in omega arith)
-tagged_due (Err t) None a e = absurd (let z : ◌≡◌ {A = ℕ} 0 1 = cc in omega arith)
+tagged_due (Ok y) (Some s) a e = absurd cc
+tagged_due (Err t) None a e = absurd cc
 tagged_due (Err t) (Some s) a e = let h : told t ≡ s = cc in ap refused h
 
 back_due : {C : Type 0} (r : Result (Unit {0}) (Stop × Tag)) (s : Option Told) (t : Tag) → returned r ≡ answer_back s t → back_came {C = C} r ≡ due_came s
 back_due (Ok y) None t e = refl
-back_due (Ok y) (Some s) t e = absurd (let z : ◌≡◌ {A = ℕ} 0 1 = cc in omega arith)
-back_due (Err x) None t e = absurd (let z : ◌≡◌ {A = ℕ} 0 1 = cc in omega arith)
+back_due (Ok y) (Some s) t e = absurd cc
+back_due (Err x) None t e = absurd cc
 back_due (Err x) (Some s) t e = let h : ◌≡◌ {A = Told × Tag} (told x.0, x.1) (s, t) = cc in ap refused (ap (λ p. p.0) h)
 
 module _ {C : Type 0} (K : Kind C) where
   does : (p q due : State C) (c : Asked C) (o : Came C) (s : Option Told) → stop_of K p c ≡ s → ((z : State C) → z ≡ due → Grants K p c done z) → o ≡ due_came s → q ≡ unless s p due → Step K p (event c o) q
   does p q due c o None stop grant is left = record {
-    refuses = λ s h. absurd (let bad : None ≡ Some s = sym stop ∙ h in let z : ◌≡◌ {A = ℕ} 0 1 = cc in omega arith);
+    refuses = λ s h. absurd (let bad : None ≡ Some s = sym stop ∙ h in cc);
     grants = λ h. subst (λ x. Grants K p c x q) (sym is) (grant q left);
   }
   does p q due c o (Some t) stop grant is left = record {
     refuses = λ s h. let same : Some t ≡ Some s = sym stop ∙ h in let e : t ≡ s = cc in (is ∙ ap refused e, left);
-    grants = λ h. absurd (let bad : Some t ≡ None = sym stop ∙ h in let z : ◌≡◌ {A = ℕ} 0 1 = cc in omega arith);
+    grants = λ h. absurd (let bad : Some t ≡ None = sym stop ∙ h in cc);
   }
 
   settle_step : (p : State C) (budget : ℕ) (r : Result (Answer C) Stop) (t : Tables C) → refusal r ≡ stop_of K p (settle budget) → Settled K p.net budget p.tables r t → Step K p (event (settle budget) (settle_came r)) (record { net = p.net; tables = t })
   settle_step p budget (Ok a) t stop s = record {
-    refuses = λ x h. absurd (let bad : None ≡ Some x = stop ∙ h in let z : ◌≡◌ {A = ℕ} 0 1 = cc in omega arith);
+    refuses = λ x h. absurd (let bad : None ≡ Some x = stop ∙ h in cc);
     grants = λ h. (answered a, refl, refl, s);
   }
   settle_step p budget (Err f) t stop s = record {
     refuses = λ x h. let same : Some (told f) ≡ Some x = stop ∙ h in let e : told f ≡ x = cc in (ap refused e, ap (λ (u : Tables C). record { net = p.net; tables = u }) s);
-    grants = λ h. absurd (let bad : Some (told f) ≡ None = stop ∙ h in let z : ◌≡◌ {A = ℕ} 0 1 = cc in omega arith);
+    grants = λ h. absurd (let bad : Some (told f) ≡ None = stop ∙ h in cc);
   }
 
 module _ {C : Type 0} (K : Kind C) (laws : Laws K) where

@@ -33,7 +33,7 @@ module _ {C : Type 0} (K : Kind C) (found : State C) (budget : ℕ) where
   pub new_refused : (s : Stop) (left : State C) → Err (told s) ≡ answer {X = Unit {0}} (opening_stop K found) tt → left ≡ unless (opening_stop K found) found (opened found) → SettlesNew K found budget (Err s) left
   new_refused s left so is =
       let stop = refused_by (opening_stop K found) (told s) so in
-      let clash : opening_stop K found ≡ None → ⊥ = λ h. let bad : Some (told s) ≡ None = sym stop ∙ h in let z : ◌≡◌ {A = ℕ} 0 1 = cc in omega arith in
+      let clash : opening_stop K found ≡ None → ⊥ = λ h. let bad : Some (told s) ≡ None = sym stop ∙ h in cc in
       record {
         stopped = λ t h. let same : Some (told s) ≡ Some t = sym stop ∙ h in let e : told s ≡ t = cc in (ap refused e, is ∙ ap (λ o. unless o found (opened found)) stop);
         steps = λ h. absurd (clash h);
@@ -47,7 +47,7 @@ module _ {C : Type 0} (K : Kind C) (found : State C) (budget : ℕ) where
       let new = is ∙ ap (λ o. unless o found (opened found)) stop in
       let one = subst (λ z. Keeps K z (event (settle budget) (settle_came r)) left) new keeps in
       record {
-        stopped = λ t h. absurd (let bad : None ≡ Some t = sym stop ∙ h in let z : ◌≡◌ {A = ℕ} 0 1 = cc in omega arith);
+        stopped = λ t h. absurd (let bad : None ≡ Some t = sym stop ∙ h in cc);
         steps = λ _. (left, one.step, refl);
         law = λ _. one.law (opened found) [] (opened_new K found stop) refl;
       }

@@ -121,7 +121,7 @@ module _ {C : Type 0} (K : Kind C) (laws : Laws K) where
       go : (x y : Bool) → lt_z f a.lo ≡ x → lt_z a.hi f ≡ y → cond (x || y) None (Some (K.neg c)) ≡ None → f <ℤ a.lo
       go true y p q h = is_less f a.lo p
       go false true p q h = absurd (let k = is_less a.hi f q in omega (arith, ints))
-      go false false p q h = absurd (let z : ◌≡◌ {A = ℕ} 0 1 = cc in omega arith)
+      go false false p q h = absurd cc
 
   above_high : (c : C) (a : Arc C) (f : ℤ) → WantsLess K c a f → own_limit_at K c a false f ≡ None → a.hi <ℤ f
   above_high c a f (inl l) h = l
@@ -130,7 +130,7 @@ module _ {C : Type 0} (K : Kind C) (laws : Laws K) where
       go : (x y : Bool) → lt_z f a.lo ≡ x → lt_z a.hi f ≡ y → cond (x || y) None (Some c) ≡ None → a.hi <ℤ f
       go true y p q h = absurd (let k = is_less f a.lo p in omega (arith, ints))
       go false true p q h = is_less a.hi f q
-      go false false p q h = absurd (let z : ◌≡◌ {A = ℕ} 0 1 = cc in omega arith)
+      go false false p q h = absurd cc
 
   pub is_strained : (inside : ℕ → Bool) (c : C) (a : Arc C) (along : Bool) (f : ℤ) → inside (near a along) ≡ false → inside (far a along) ≡ true → Wants K c a along f → own_limit_at K c a along f ≡ None → Strained inside a f
   is_strained inside c a true f o i w h = inr (o, i, below_low c a f w h)

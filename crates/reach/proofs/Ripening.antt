@@ -22,11 +22,11 @@ use Rattle.reach.specs.Scans.{is_labelled, crossing_at, slack_at, BestIs, Ripe, 
 
 across_ends : (x y : Bool) (p q : ℕ) (along : Bool) → ltb 0 p ≡ x → ltb 0 q ≡ y → cond x (cond y None (Some true)) (cond y (Some false) None) ≡ Some along → (0 < cond along p q) × (cond along q p ≡ 0)
 across_ends true false p q true u v e = (ltb-true 0 p u, omega (arith, ltb-false 0 q v))
-across_ends true false p q false u v e = absurd (let z : ◌≡◌ {A = ℕ} 0 1 = cc in omega arith)
+across_ends true false p q false u v e = absurd cc
 across_ends false true p q false u v e = (ltb-true 0 q v, omega (arith, ltb-false 0 p u))
-across_ends false true p q true u v e = absurd (let z : ◌≡◌ {A = ℕ} 0 1 = cc in omega arith)
-across_ends true true p q along u v e = absurd (let z : ◌≡◌ {A = ℕ} 0 1 = cc in omega arith)
-across_ends false false p q along u v e = absurd (let z : ◌≡◌ {A = ℕ} 0 1 = cc in omega arith)
+across_ends false true p q true u v e = absurd cc
+across_ends true true p q along u v e = absurd cc
+across_ends false false p q along u v e = absurd cc
 
 pub crossed : {C : Type 0} (ls : Labels) (a : Arc C) (along : Bool) → crossing_at ls a ≡ Some along → Labelled ls (near a along) × (place_of ls (far a along) ≡ 0)
 crossed ls a true e = across_ends (ltb 0 (place_of ls a.from)) (ltb 0 (place_of ls a.to)) (place_of ls a.from) (place_of ls a.to) true refl refl e
@@ -83,16 +83,16 @@ slack_up : {C : Type 0} (K : Kind C) (c s : C) (a : Arc C) (f : ℤ) → slack_a
 slack_up {C} K c s a f e = go (K.le c K.zero) (lt_z f a.hi) e
   where
     go : (x y : Bool) → cond x None (cond y (Some c) None) ≡ Some s → (x ≡ false) × (y ≡ true) × (s ≡ c)
-    go true y e = absurd (let z : ◌≡◌ {A = ℕ} 0 1 = cc in omega arith)
-    go false false e = absurd (let z : ◌≡◌ {A = ℕ} 0 1 = cc in omega arith)
+    go true y e = absurd cc
+    go false false e = absurd cc
     go false true e = (refl, refl, cc)
 
 slack_down' : {C : Type 0} (K : Kind C) (c s : C) (a : Arc C) (f : ℤ) → slack_at K c a false f ≡ Some s → (K.le K.zero c ≡ false) × (lt_z a.lo f ≡ true) × (s ≡ K.neg c)
 slack_down' {C} K c s a f e = go (K.le K.zero c) (lt_z a.lo f) e
   where
     go : (x y : Bool) → cond x None (cond y (Some (K.neg c)) None) ≡ Some s → (x ≡ false) × (y ≡ true) × (s ≡ K.neg c)
-    go true y e = absurd (let z : ◌≡◌ {A = ℕ} 0 1 = cc in omega arith)
-    go false false e = absurd (let z : ◌≡◌ {A = ℕ} 0 1 = cc in omega arith)
+    go true y e = absurd cc
+    go false false e = absurd cc
     go false true e = (refl, refl, cc)
 
 module _ {C : Type 0} (K : Kind C) (laws : Laws K) where

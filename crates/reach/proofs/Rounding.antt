@@ -15,7 +15,7 @@ use Rattle.labels.specs.Ways.{Chosen}
 use Rattle.reach.specs.Scans.{is_labelled}
 use Rattle.reach.specs.Rises.{Risen, Changed}
 use Rattle.reach.specs.declared.rounds.Over.{Over}
-use Rattle.reach.specs.Rounds.{large, NoHigher, Repriced, Advanced}
+use Rattle.reach.specs.Rounds.{large, Searching, NoHigher, Repriced, Advanced}
 use Rattle.reach.proofs.Turning.{none_higher, same_source}
 
 -- the largest size of the price of a labelled node, with k nodes labelled: each has at most twice the largest price at the start and one cost more
@@ -130,11 +130,11 @@ pub record Rounding {C : Type 0} (K : Kind C) (arcs : List (Arc C)) (flow : List
   pub good : Good K arcs flow ps chosen.arc ls
   pub wanted : Chosen K arcs flow ps chosen (node_at ls 0)
 
-module _ {C : Type 0} (K : Kind C) (laws : Laws K) (arcs : List (Arc C)) (flow : List ℤ) (old : List C) (tame : Bounded K large old) (chosen : Step) where
-  pub rounding_start : (ls : Labels) → length flow ≡ length arcs → Good K arcs flow old chosen.arc ls → Chosen K arcs flow old chosen (node_at ls 0) → Rounding K arcs flow old old chosen ls
-  rounding_start ls long good wanted = record { held = held_start K laws old tame ls; eased = none_higher K arcs flow old long; good = good; wanted = wanted }
+module _ {C : Type 0} {K : Kind C} (laws : Laws K) {arcs : List (Arc C)} {flow : List ℤ} {old : List C} (tame : Bounded K large old) {chosen : Step} where
+  pub rounding_start : {ls : Labels} → Searching K arcs flow old chosen ls → Rounding K arcs flow old old chosen ls
+  rounding_start {ls} at = record { held = held_start K laws old tame ls; eased = none_higher K arcs flow old at.long; good = at.good; wanted = at.wanted }
 
-  module _ (ps : List C) (ls : Labels) (before : Rounding K arcs flow old ps chosen ls) where
+  module _ {ps : List C} {ls : Labels} (before : Rounding K arcs flow old ps chosen ls) where
     whole : (qs : List C) (ms : Labels) → length qs ≡ length ps → Good K arcs flow qs chosen.arc ms → Whole (length old) ms
     whole qs ms same good = subst (λ n. Whole n ms) (same ∙ before.held.long) good.whole
 
@@ -142,34 +142,34 @@ module _ {C : Type 0} (K : Kind C) (laws : Laws K) (arcs : List (Arc C)) (flow :
     rounding_small = held_small K laws old tame ps ls before.held before.good.whole.few
 
     -- more nodes are labelled
-    pub rounding_labelled : (ms : Labels) → Good K arcs flow ps chosen.arc ms → Grown ls ms → Rounding K arcs flow old ps chosen ms
-    rounding_labelled ms good grown = record {
+    pub rounding_labelled : {ms : Labels} → Good K arcs flow ps chosen.arc ms → Grown ls ms → Rounding K arcs flow old ps chosen ms
+    rounding_labelled {ms} good grown = record {
       held = held_grown K laws old tame ps ls ms before.held (whole ps ls refl before.good) (whole ps ms refl good) grown;
       eased = before.eased;
       good = good;
       wanted = same_source K arcs flow ps chosen ls ms before.good.some grown before.wanted;
     }
 
-    module _ (qs : List C) (ms : Labels) where
-      held_after : (r : Result (Unit {0}) Over) → Advanced K arcs flow ps qs chosen ls ms r → Held K old qs ls
-      held_after r done = held_changed K laws old tame ps qs ls before.held done.long done.changed
+    module _ {qs : List C} {ms : Labels} where
+      held_after : {r : Result (Unit {0}) Over} → Advanced K arcs flow ps qs chosen ls ms r → Held K old qs ls
+      held_after done = held_changed K laws old tame ps qs ls before.held done.long done.changed
 
       -- a round is over, and one node more is labelled
       pub rounding_advanced : Advanced K arcs flow ps qs chosen ls ms (Ok tt) → Rounding K arcs flow old qs chosen ms
       rounding_advanced done =
           let (good, wanted, more) = done.ends in
           record {
-            held = held_grown K laws old tame qs ls ms (held_after (Ok tt) done) (whole ps ls refl before.good) (whole qs ms done.long good) done.grown;
+            held = held_grown K laws old tame qs ls ms (held_after done) (whole ps ls refl before.good) (whole qs ms done.long good) done.grown;
             eased = higher_both K arcs flow old ps qs before.eased done.eased;
             good = good;
             wanted = wanted;
           }
 
       -- the rounds are over
-      pub repriced_after : (r : Result (Unit {0}) Over) → Advanced K arcs flow ps qs chosen ls ms r → Repriced K arcs flow old qs
-      repriced_after r done = record {
+      pub repriced_after : {r : Result (Unit {0}) Over} → Advanced K arcs flow ps qs chosen ls ms r → Repriced K arcs flow old qs
+      repriced_after done = record {
         long = done.long ∙ before.held.long;
-        small = held_small K laws old tame qs ls (held_after r done) before.good.whole.few;
+        small = held_small K laws old tame qs ls (held_after done) before.good.whole.few;
         eased = higher_both K arcs flow old ps qs before.eased done.eased;
       }
 

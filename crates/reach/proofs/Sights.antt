@@ -31,7 +31,7 @@ module _ {C : Type 0} (K : Kind C) (laws : Laws K) (arcs : List (Arc C)) (flow :
     seen_aside no_way = seen_more n best best old (λ s h. h) (λ b along x. absurd (never b along x)) (λ b along x. absurd (never b along x)) old.found
       where
         never : (b : Arc C) (along : Bool) → Across arcs chosen ls n b along → ⊥
-        never b along x = let e = x.leads in let q = ap (crossing_at ls) (same_at arcs n a b is x.is) in let z : ◌≡◌ {A = ℕ} 0 1 = cc in omega arith
+        never b along x = let e = x.leads in let q = ap (crossing_at ls) (same_at arcs n a b is x.is) in cc
 
     module _ (along : Bool) (way : Some along ≡ crossing_at ls a) (closed : may K prices a along (get_or flow n (pos 0)) ≡ false) where
       -- what is so of the arc and the way is so of each that leads across at n
@@ -43,7 +43,7 @@ module _ {C : Type 0} (K : Kind C) (laws : Laws K) (arcs : List (Arc C)) (flow :
 
       pub seen_free : None ≡ slack_at K (reduced K prices a) a along (get_or flow n (pos 0)) → Sighted K arcs flow prices chosen ls (n + 1) best
       seen_free free = seen_more n best best old (λ s h. h) (only (λ b d. may K prices b d (get_or flow n (pos 0)) ≡ false) closed)
-          (only (λ b d. (s : C) → slack_at K (reduced K prices b) b d (get_or flow n (pos 0)) ≡ Some s → AtMost K best s) (λ s e. absurd (let z : ◌≡◌ {A = ℕ} 0 1 = cc in omega arith))) old.found
+          (only (λ b d. (s : C) → slack_at K (reduced K prices b) b d (get_or flow n (pos 0)) ≡ Some s → AtMost K best s) (λ s e. absurd cc)) old.found
 
       pub seen_slack : (s : C) (b : Best C) → (n ≡ chosen → ⊥) → Some s ≡ slack_at K (reduced K prices a) a along (get_or flow n (pos 0)) → b ≡ record { slack = s; over = record { arc = n; along = along } } → (r : Best C) → r ≡ nearer_of K best b → Sighted K arcs flow prices chosen ls (n + 1) (Some r)
       seen_slack s b other e be r re = subst (λ z. Sighted K arcs flow prices chosen ls (n + 1) (Some z)) (sym re) (seen_more n best (Some (nearer_of K best b)) old (fewer best)

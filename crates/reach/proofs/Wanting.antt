@@ -98,8 +98,8 @@ module _ {C : Type 0} (K : Kind C) (laws : Laws K) where
   own_is c o a along f h = go (lt_z f a.lo) (lt_z a.hi f) refl refl h
     where
       go : (x y : Bool) → lt_z f a.lo ≡ x → lt_z a.hi f ≡ y → cond (x || y) None (Some (cond along (K.neg c) c)) ≡ Some o → Within a f × (o ≡ cond along (K.neg c) c)
-      go true y p r h = absurd (let z : ◌≡◌ {A = ℕ} 0 1 = cc in omega arith)
-      go false true p r h = absurd (let z : ◌≡◌ {A = ℕ} 0 1 = cc in omega arith)
+      go true y p r h = absurd cc
+      go false true p r h = absurd cc
       go false false p r h = ((not_less f a.lo p, not_less a.hi f r), cc)
 
   pub own_up : (c o : C) (a : Arc C) (along : Bool) (f : ℤ) → Wants K c a along f → own_limit_at K c a along f ≡ Some o → K.le K.zero o ≡ true

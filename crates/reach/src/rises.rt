@@ -48,10 +48,10 @@ fn lesser<C: CostKind>(own: Option<C>, best: Option<Best<C>>) -> Option<Rise<C>>
     ensures { result ≡ next_of C.CostKind.kind own best }
 {
     let Some(b) = best else {
-        return own.map(|c| Rise::Kilter(c));
+        return own.map(Rise::Kilter);
     };
     match own {
-        Some(c) if c.at_most(b.slack) => Some(Rise::Kilter(c)),
+        Some(c) if c <= b.slack => Some(Rise::Kilter(c)),
         _ => Some(Rise::Label(b)),
     }
 }

@@ -2,11 +2,10 @@
 
 ghost use Rattle.std.specs.Prelude.{◌≡◌, ℕ, ◌<◌, ◌≤◌, length};
 ghost use Rattle.networks.specs.Nets.{shown};
-ghost use Rattle.flows.specs.Fits.{Fitting, Bounded, price_limit};
-ghost use Rattle.labels.specs.Good.{Good, count, node_at, place_of};
-ghost use Rattle.labels.specs.Ways.{Chosen};
+ghost use Rattle.flows.specs.Fits.{Bounded, price_limit};
+ghost use Rattle.labels.specs.Good.{count, place_of};
 ghost use Rattle.reach.specs.Scans.{Sighted};
-ghost use Rattle.reach.specs.Rounds.{large, Repriced, EndsWith, Advanced};
+ghost use Rattle.reach.specs.Rounds.{large, Searching, Repriced, EndsWith, Advanced};
 
 use crate::rises::{Rise, next_rise, raise};
 use crate::scans::{Best, link, look_round};
@@ -32,12 +31,9 @@ fn change<N: Network>(
     best: Option<Best<N::Cost>>,
     labels: &mut Labels,
 ) -> Result<(), Over>
-    requires fitting { Fitting N.Cost.CostKind.kind (length prices.old) (shown (N.meaning net.now)) }
+    requires searching { Searching N.Cost.CostKind.kind (shown (N.meaning net.now)) flow.now prices.old chosen labels.old }
     requires moderate { Bounded N.Cost.CostKind.kind price_limit prices.old }
     requires few { length prices.old ≤ 256 }
-    requires long { length flow.now ≡ length (shown (N.meaning net.now)) }
-    requires good { Good N.Cost.CostKind.kind (shown (N.meaning net.now)) flow.now prices.old chosen.arc labels.old }
-    requires chosen { Chosen N.Cost.CostKind.kind (shown (N.meaning net.now)) flow.now prices.old chosen (node_at labels.old 0) }
     requires sought { place_of labels.old chosen.node ≡ 0 }
     requires sighted { Sighted N.Cost.CostKind.kind (shown (N.meaning net.now)) flow.now prices.old chosen.arc labels.old (length (shown (N.meaning net.now))) best }
     ensures { Advanced N.Cost.CostKind.kind (shown (N.meaning net.now)) flow.now prices.old prices.new chosen labels.old labels.new result }
@@ -68,12 +64,9 @@ fn advance<N: Network>(
     chosen: Step,
     labels: &mut Labels,
 ) -> Result<(), Over>
-    requires fitting { Fitting N.Cost.CostKind.kind (length prices.old) (shown (N.meaning net.now)) }
+    requires searching { Searching N.Cost.CostKind.kind (shown (N.meaning net.now)) flow.now prices.old chosen labels.old }
     requires moderate { Bounded N.Cost.CostKind.kind price_limit prices.old }
     requires few { length prices.old ≤ 256 }
-    requires long { length flow.now ≡ length (shown (N.meaning net.now)) }
-    requires good { Good N.Cost.CostKind.kind (shown (N.meaning net.now)) flow.now prices.old chosen.arc labels.old }
-    requires chosen { Chosen N.Cost.CostKind.kind (shown (N.meaning net.now)) flow.now prices.old chosen (node_at labels.old 0) }
     requires sought { place_of labels.old chosen.node ≡ 0 }
     ensures { Advanced N.Cost.CostKind.kind (shown (N.meaning net.now)) flow.now prices.old prices.new chosen labels.old labels.new result }
 {
@@ -98,14 +91,11 @@ pub fn reach<N: Network>(
     chosen: Step,
     labels: &mut Labels,
 ) -> Result<(), Over>
-    requires fitting { Fitting N.Cost.CostKind.kind (length prices.old) (shown (N.meaning net.now)) }
+    requires searching { Searching N.Cost.CostKind.kind (shown (N.meaning net.now)) flow.now prices.old chosen labels.old }
     requires few { length prices.old ≤ 256 }
     requires tame { Bounded N.Cost.CostKind.kind large prices.old }
-    requires long { length flow.now ≡ length (shown (N.meaning net.now)) }
     requires node { (1 ≤ chosen.node) × (chosen.node ≤ length prices.old) }
-    requires good { Good N.Cost.CostKind.kind (shown (N.meaning net.now)) flow.now prices.old chosen.arc labels.old }
     requires one { count labels.old ≡ 1 }
-    requires chosen { Chosen N.Cost.CostKind.kind (shown (N.meaning net.now)) flow.now prices.old chosen (node_at labels.old 0) }
     ensures prices { Repriced N.Cost.CostKind.kind (shown (N.meaning net.now)) flow.now prices.old prices.new }
     ensures ends { EndsWith N.Cost.CostKind.kind (shown (N.meaning net.now)) flow.now prices.new chosen labels.new result }
 {

@@ -46,12 +46,12 @@ fn slack<C: CostKind>(seen: Seen<C>, along: bool) -> Option<C>
 {
     let Seen { arc, cost, flow } = seen;
     if along {
-        if cost.at_most(C::zero()) || flow >= arc.hi {
+        if cost <= C::zero() || flow >= arc.hi {
             None
         } else {
             Some(cost)
         }
-    } else if C::zero().at_most(cost) || flow <= arc.lo {
+    } else if C::zero() <= cost || flow <= arc.lo {
         None
     } else {
         Some(opposite(cost))
@@ -62,7 +62,7 @@ fn nearer<C: CostKind>(best: Option<Best<C>>, b: Best<C>) -> Best<C>
     ensures { result ≡ nearer_of C.CostKind.kind best b }
 {
     match best {
-        Some(d) if d.slack.at_most(b.slack) => d,
+        Some(d) if d.slack <= b.slack => d,
         _ => b,
     }
 }

@@ -1,5 +1,5 @@
 -- What each granted call does to a network: to ends, to the bounds and costs beneath lock-outs, and to what is out.
-use Rattle.std.proofs.Common.{◌≡◌, ℕ, zero, suc, ◌-◌, Bool, true, false, cond, eqb, ◌⊎◌, ◌↔◌, List, [], ◌∷◌, set, ℤ, Some, None, Option, sym, refl, ap, ◌∙◌, subst, inl, inr, ⊎_elim, arith}
+use Rattle.std.proofs.Common.{◌≡◌, ℕ, zero, suc, ◌-◌, Bool, true, false, cond, eqb, ◌⊎◌, ◌↔◌, List, [], ◌∷◌, set, ℤ, Some, None, Option, sym, refl, ap, ◌∙◌, subst, subst₂, inl, inr, ⊎_elim, arith}
 use Rattle.std.specs.List.{slice_get}
 use Rattle.std.specs.Option.{option_map}
 use Rattle.std.proofs.lemmas.Bool.{cond-false, eqb-false, cases_eq}
@@ -16,7 +16,7 @@ use Rattle.runs.proofs.Locks.{with_same, with_other}
 -- ---- lists that count from 1
 
 nth_same : {X : Type 0} (xs : List X) (i : ℕ) (x y : X) → slice_get xs i ≡ Some x → slice_get (set xs i y) i ≡ Some y
-nth_same [] i x y e = absurd (let z : ◌≡◌ {A = ℕ} 0 1 = cc in omega arith)
+nth_same [] i x y e = absurd cc
 nth_same (z ∷ zs) zero x y e = refl
 nth_same (z ∷ zs) (suc i) x y e = nth_same zs i x y e
 
@@ -32,7 +32,7 @@ there : {X : Type 0} (xs : List X) (a : ℕ) (x : X) → numbered xs a ≡ Some 
 there xs a x e = go (eqb a 0) e
   where
     go : (b : Bool) → cond b None (slice_get xs (a - 1)) ≡ Some x → (b ≡ false) × (slice_get xs (a - 1) ≡ Some x)
-    go true e = absurd (let z : ◌≡◌ {A = ℕ} 0 1 = cc in omega arith)
+    go true e = absurd cc
     go false e = (refl, e)
 
 set_numbered : {X : Type 0} (xs : List X) (a : ℕ) (x y : X) → numbered xs a ≡ Some x → numbered (set xs (a - 1) y) a ≡ Some y
@@ -105,130 +105,95 @@ amended n a y = record { nodes = n.nodes; arcs = set n.arcs (a - 1) y; locks = n
 amended_ends : {C : Type 0} (n : Net C) (a : ℕ) (x y : Arc C) → numbered n.arcs a ≡ Some x → x.from ≡ y.from → x.to ≡ y.to → SameEnds (shown n) (shown (amended n a y))
 amended_ends n a x y e p q = ends_shown 1 n.locks n.locks n.arcs (set n.arcs (a - 1) y) (ends_set n.arcs (a - 1) x y (there n.arcs a x e).1 p q)
 
--- ---- rebound
+-- what stands at b once y is in the place of x, arc a
+module _ {C : Type 0} (n : Net C) (a : ℕ) (x y : Arc C) (is : numbered n.arcs a ≡ Some x) where
+  amended_at : (b : ℕ) (z : Arc C) → numbered (amended n a y).arcs b ≡ Some z → ((b ≡ a) × (y ≡ z)) ⊎ ((b ≡ a → ⊥) × (numbered n.arcs b ≡ Some z))
+  amended_at b z h = ⊎_elim
+      (λ (q : b ≡ a).
+      let same : Some y ≡ Some z = sym (set_numbered n.arcs a x y is) ∙ ap (numbered (amended n a y).arcs) (sym q) ∙ h in
+      inl (q, cc))
+      (λ (q : b ≡ a → ⊥). inr (q, sym (others_numbered n.arcs a b x y is q) ∙ h))
+      (cases_eq b a)
+
+  -- what y shares with x, each arc shares with the one before
+  amended_keeps : (Same : Arc C → Arc C → Type 0) → Same x y → ((z : Arc C) → Same z z) → (b : ℕ) (z : Arc C) → numbered (amended n a y).arcs b ≡ Some z → (w : Arc C) × ((numbered n.arcs b ≡ Some w) × Same w z)
+  amended_keeps Same shared self b z h = go (amended_at b z h)
+    where
+      go : ((b ≡ a) × (y ≡ z)) ⊎ ((b ≡ a → ⊥) × (numbered n.arcs b ≡ Some z)) → (w : Arc C) × ((numbered n.arcs b ≡ Some w) × Same w z)
+      go (inl (q, e)) = (x, (ap (numbered n.arcs) q ∙ is, subst (Same x) e shared))
+      go (inr (_, g)) = (z, (g, self z))
+
+-- ---- what a network shows of an arc, and what lies beneath
 
 found : {C : Type 0} (b : Bool) (o : Option (Arc C)) (x : Arc C) → option_map (shown_arc b) o ≡ Some x → (y : Arc C) × ((o ≡ Some y) × (x ≡ shown_arc b y))
-found b None x e = absurd (let z : ◌≡◌ {A = ℕ} 0 1 = cc in omega arith)
+found b None x e = absurd cc
 found b (Some y) x e = (y, (refl, cc))
 
 -- arc a as the network shows it, and beneath
 pub arc_beneath : {C : Type 0} (n : Net C) (a : ℕ) (x : Arc C) → arc_at n a ≡ Some x → (y : Arc C) × ((numbered n.arcs a ≡ Some y) × (x ≡ shown_arc (is_out n.locks a) y))
 arc_beneath n a x e = found (is_out n.locks a) (numbered n.arcs a) x e
 
-there_is : {C : Type 0} (n : Net C) (a : ℕ) → (arc_at n a ≡ None → ⊥) → (y : Arc C) × (numbered n.arcs a ≡ Some y)
-there_is {C} n a h = go (numbered n.arcs a) refl
+-- where no stop comes that an absent arc would bring, there is an arc
+there_is : {C : Type 0} (n : Net C) (a : ℕ) (stop : Option (Arc C) → Option Told) → stop None ≡ Some (8, a) → stop (arc_at n a) ≡ None → (y : Arc C) × (numbered n.arcs a ≡ Some y)
+there_is {C} n a stop absent ok = go (numbered n.arcs a) refl
   where
     go : (o : Option (Arc C)) → numbered n.arcs a ≡ o → (y : Arc C) × (o ≡ Some y)
-    go None e = absurd (h (ap (option_map (shown_arc (is_out n.locks a))) e))
+    go None e = let s : stop (arc_at n a) ≡ stop None = ap (λ o. stop (option_map (shown_arc (is_out n.locks a)) o)) e in absurd cc
     go (Some y) e = (y, refl)
 
+-- ---- rebound
+
 module _ {C : Type 0} (n : Net C) (e : Event C) (a : ℕ) (lo hi : ℤ) (call : e.call ≡ rebound a lo hi) (granted : Granted e) (ok : rebound_stop n a ≡ None) where
-  arc : (y : Arc C) × (numbered n.arcs a ≡ Some y)
-  arc = there_is n a (λ h. let s : held_stop {C = C} a (arc_at n a) ≡ held_stop {C = C} a None = ap (held_stop {C = C} a) h in let bad : ◌≡◌ {A = Option Told} (Some (8, a)) None = sym s ∙ ok in let z : ◌≡◌ {A = ℕ} 0 1 = cc in omega arith)
-
-  only : (b : ℕ) (l h : ℤ) → e.call ≡ rebound b l h → b ≡ a
-  only b l h c = cc
-
-  rebound_bounds : (x : Arc C) → numbered n.arcs a ≡ Some x → (b : ℕ) (y : Arc C) → numbered (set n.arcs (a - 1) (with_bounds lo hi x)) b ≡ Some y →
-      GrantedCall (rebound b y.lo y.hi) e ⊎ ((¬ Rebounds b e) × ((z : Arc C) × ((numbered n.arcs b ≡ Some z) × (z.lo ≡ y.lo) × (z.hi ≡ y.hi))))
-  rebound_bounds x is b y h = ⊎_elim
-      (λ (q : b ≡ a).
-      let same : Some (with_bounds lo hi x) ≡ Some y = sym (set_numbered n.arcs a x (with_bounds lo hi x) is) ∙ ap (numbered (set n.arcs (a - 1) (with_bounds lo hi x))) (sym q) ∙ h in
-      let w : with_bounds lo hi x ≡ y = cc in
-      let p : lo ≡ y.lo = ap (λ v. v.lo) w in
-      let r : hi ≡ y.hi = ap (λ v. v.hi) w in
-      inl (call ∙ ap (λ c. rebound c lo hi) (sym q) ∙ ap (λ l. rebound b l hi) p ∙ ap (rebound b y.lo) r, granted))
-      (λ (q : b ≡ a → ⊥). inr ((λ (l, h, (c, g)). q (only b l h c)), (y, (sym (others_numbered n.arcs a b x (with_bounds lo hi x) is q) ∙ h, refl, refl))))
-      (cases_eq b a)
-
-  rebound_costs : (x : Arc C) → numbered n.arcs a ≡ Some x → (b : ℕ) (y : Arc C) → numbered (set n.arcs (a - 1) (with_bounds lo hi x)) b ≡ Some y →
-      (z : Arc C) × ((numbered n.arcs b ≡ Some z) × (z.cost ≡ y.cost))
-  rebound_costs x is b y h = ⊎_elim
-      (λ (q : b ≡ a).
-      let same : Some (with_bounds lo hi x) ≡ Some y = sym (set_numbered n.arcs a x (with_bounds lo hi x) is) ∙ ap (numbered (set n.arcs (a - 1) (with_bounds lo hi x))) (sym q) ∙ h in
-      let w : with_bounds lo hi x ≡ y = cc in
-      (x, (ap (numbered n.arcs) q ∙ is, ap (λ v. v.cost) w)))
-      (λ (q : b ≡ a → ⊥). (y, (sym (others_numbered n.arcs a b x (with_bounds lo hi x) is q) ∙ h, refl)))
-      (cases_eq b a)
+  new_bounds : (x : Arc C) → numbered n.arcs a ≡ Some x → (b : ℕ) (z : Arc C) → numbered (amended n a (with_bounds lo hi x)).arcs b ≡ Some z →
+      GrantedCall (rebound b z.lo z.hi) e ⊎ ((¬ Rebounds b e) × ((w : Arc C) × ((numbered n.arcs b ≡ Some w) × (w.lo ≡ z.lo) × (w.hi ≡ z.hi))))
+  new_bounds x is b z h = go (amended_at n a x (with_bounds lo hi x) is b z h)
+    where
+      go : ((b ≡ a) × (with_bounds lo hi x ≡ z)) ⊎ ((b ≡ a → ⊥) × (numbered n.arcs b ≡ Some z)) → GrantedCall (rebound b z.lo z.hi) e ⊎ ((¬ Rebounds b e) × ((w : Arc C) × ((numbered n.arcs b ≡ Some w) × (w.lo ≡ z.lo) × (w.hi ≡ z.hi))))
+      go (inl (q, same)) = inl (subst₂ (λ c (y : Arc C). e.call ≡ rebound c y.lo y.hi) (sym q) same call, granted)
+      go (inr (q, g)) = inr ((λ (l, u, (c, _)). q (let r : b ≡ a = cc in r)), (z, (g, refl, refl)))
 
   pub rebound_effect : Effect n e (rebounded n a lo hi)
   rebound_effect =
-      let x = arc.0 in
-      let is = arc.1 in
-      let m : Net C = amended n a (with_bounds lo hi x) in
-      let effect : Effect n e m = record {
+      let t = there_is n a (held_stop a) refl ok in
+      let x = t.0 in
+      let is = t.1 in
+      let effect : Effect n e (amended n a (with_bounds lo hi x)) = record {
         nodes = refl;
         ends = amended_ends n a x (with_bounds lo hi x) is refl refl;
-        bounds = rebound_bounds x is;
-        costs = λ b y h. inr ((λ (c, (k, g)). no_recost b c k), rebound_costs x is b y h);
+        bounds = new_bounds x is;
+        costs = λ b z h. inr ((λ (c, (k, g)). cc), amended_keeps n a x (with_bounds lo hi x) is (λ w y. w.cost ≡ y.cost) refl (λ w. refl) b z h);
         once = λ h. h;
-        outs = λ _. outs_kept n e (λ l b (k, g). no_take l b k) (λ l b (k, g). no_back l b k);
+        outs = λ _. outs_kept n e (λ l b (k, g). cc) (λ l b (k, g). cc);
       } in
       subst (λ s. Effect n e (unless s n (record { nodes = n.nodes; arcs = replaced n.arcs a (option_map (with_bounds lo hi) (numbered n.arcs a)); locks = n.locks }))) (sym ok)
       (subst (λ o. Effect n e (record { nodes = n.nodes; arcs = replaced n.arcs a (option_map (with_bounds lo hi) o); locks = n.locks })) (sym is) effect)
-    where
-      no_recost : (b : ℕ) (c : C) → e.call ≡ recost b c → ⊥
-      no_recost b c k = let z : ◌≡◌ {A = ℕ} 0 1 = cc in omega arith
-
-      no_take : (l b : ℕ) → e.call ≡ take_out l b → ⊥
-      no_take l b k = let z : ◌≡◌ {A = ℕ} 0 1 = cc in omega arith
-
-      no_back : (l b : ℕ) → e.call ≡ hand_back l b → ⊥
-      no_back l b k = let z : ◌≡◌ {A = ℕ} 0 1 = cc in omega arith
 
 -- ---- recost
 
 module _ {C : Type 0} (size : C → ℕ) (n : Net C) (e : Event C) (a : ℕ) (c : C) (call : e.call ≡ recost a c) (granted : Granted e) (ok : recost_stop size n a c ≡ None) where
-  arc_of : (y : Arc C) × (numbered n.arcs a ≡ Some y)
-  arc_of = there_is n a (λ h. let s : cost_stop size a c (arc_at n a) ≡ cost_stop size a c None = ap (cost_stop size a c) h in let bad : ◌≡◌ {A = Option Told} (Some (8, a)) None = sym s ∙ ok in let z : ◌≡◌ {A = ℕ} 0 1 = cc in omega arith)
-
-  only_one : (b : ℕ) (d : C) → e.call ≡ recost b d → b ≡ a
-  only_one b d k = cc
-
-  recost_costs : (x : Arc C) → numbered n.arcs a ≡ Some x → (b : ℕ) (y : Arc C) → numbered (set n.arcs (a - 1) (with_cost c x)) b ≡ Some y →
-      GrantedCall (recost b y.cost) e ⊎ ((¬ Recosts b e) × ((z : Arc C) × ((numbered n.arcs b ≡ Some z) × (z.cost ≡ y.cost))))
-  recost_costs x is b y h = ⊎_elim
-      (λ (q : b ≡ a).
-      let same : Some (with_cost c x) ≡ Some y = sym (set_numbered n.arcs a x (with_cost c x) is) ∙ ap (numbered (set n.arcs (a - 1) (with_cost c x))) (sym q) ∙ h in
-      let w : with_cost c x ≡ y = cc in
-      inl (call ∙ ap (λ k. recost k c) (sym q) ∙ ap (recost b) (ap (λ v. v.cost) w), granted))
-      (λ (q : b ≡ a → ⊥). inr ((λ (d, (k, g)). q (only_one b d k)), (y, (sym (others_numbered n.arcs a b x (with_cost c x) is q) ∙ h, refl))))
-      (cases_eq b a)
-
-  recost_bounds : (x : Arc C) → numbered n.arcs a ≡ Some x → (b : ℕ) (y : Arc C) → numbered (set n.arcs (a - 1) (with_cost c x)) b ≡ Some y →
-      (z : Arc C) × ((numbered n.arcs b ≡ Some z) × (z.lo ≡ y.lo) × (z.hi ≡ y.hi))
-  recost_bounds x is b y h = ⊎_elim
-      (λ (q : b ≡ a).
-      let same : Some (with_cost c x) ≡ Some y = sym (set_numbered n.arcs a x (with_cost c x) is) ∙ ap (numbered (set n.arcs (a - 1) (with_cost c x))) (sym q) ∙ h in
-      let w : with_cost c x ≡ y = cc in
-      (x, (ap (numbered n.arcs) q ∙ is, ap (λ v. v.lo) w, ap (λ v. v.hi) w)))
-      (λ (q : b ≡ a → ⊥). (y, (sym (others_numbered n.arcs a b x (with_cost c x) is q) ∙ h, refl, refl)))
-      (cases_eq b a)
+  new_costs : (x : Arc C) → numbered n.arcs a ≡ Some x → (b : ℕ) (z : Arc C) → numbered (amended n a (with_cost c x)).arcs b ≡ Some z →
+      GrantedCall (recost b z.cost) e ⊎ ((¬ Recosts b e) × ((w : Arc C) × ((numbered n.arcs b ≡ Some w) × (w.cost ≡ z.cost))))
+  new_costs x is b z h = go (amended_at n a x (with_cost c x) is b z h)
+    where
+      go : ((b ≡ a) × (with_cost c x ≡ z)) ⊎ ((b ≡ a → ⊥) × (numbered n.arcs b ≡ Some z)) → GrantedCall (recost b z.cost) e ⊎ ((¬ Recosts b e) × ((w : Arc C) × ((numbered n.arcs b ≡ Some w) × (w.cost ≡ z.cost))))
+      go (inl (q, same)) = inl (subst₂ (λ k (y : Arc C). e.call ≡ recost k y.cost) (sym q) same call, granted)
+      go (inr (q, g)) = inr ((λ (d, (k, _)). q (let r : b ≡ a = cc in r)), (z, (g, refl)))
 
   pub recost_effect : Effect n e (recosted size n a c)
   recost_effect =
-      let x = arc_of.0 in
-      let is = arc_of.1 in
-      let m : Net C = amended n a (with_cost c x) in
-      let effect : Effect n e m = record {
+      let t = there_is n a (cost_stop size a c) refl ok in
+      let x = t.0 in
+      let is = t.1 in
+      let effect : Effect n e (amended n a (with_cost c x)) = record {
         nodes = refl;
         ends = amended_ends n a x (with_cost c x) is refl refl;
-        bounds = λ b y h. inr ((λ (l, u, (k, g)). no_rebound b l u k), recost_bounds x is b y h);
-        costs = recost_costs x is;
+        bounds = λ b z h. inr ((λ (l, u, (k, g)). cc), amended_keeps n a x (with_cost c x) is (λ w y. (w.lo ≡ y.lo) × (w.hi ≡ y.hi)) (refl, refl) (λ w. (refl, refl)) b z h);
+        costs = new_costs x is;
         once = λ h. h;
-        outs = λ _. outs_kept n e (λ l b (k, g). no_take l b k) (λ l b (k, g). no_back l b k);
+        outs = λ _. outs_kept n e (λ l b (k, g). cc) (λ l b (k, g). cc);
       } in
       subst (λ s. Effect n e (unless s n (record { nodes = n.nodes; arcs = replaced n.arcs a (option_map (with_cost c) (numbered n.arcs a)); locks = n.locks }))) (sym ok)
       (subst (λ o. Effect n e (record { nodes = n.nodes; arcs = replaced n.arcs a (option_map (with_cost c) o); locks = n.locks })) (sym is) effect)
-    where
-      no_rebound : (b : ℕ) (l u : ℤ) → e.call ≡ rebound b l u → ⊥
-      no_rebound b l u k = let z : ◌≡◌ {A = ℕ} 0 1 = cc in omega arith
-
-      no_take : (l b : ℕ) → e.call ≡ take_out l b → ⊥
-      no_take l b k = let z : ◌≡◌ {A = ℕ} 0 1 = cc in omega arith
-
-      no_back : (l b : ℕ) → e.call ≡ hand_back l b → ⊥
-      no_back l b k = let z : ◌≡◌ {A = ℕ} 0 1 = cc in omega arith
 
 -- ---- take-out and hand-back
 
@@ -262,42 +227,27 @@ once_changed os l f o is step all k p h = ⊎_elim
     (λ (q : k ≡ l → ⊥). all k p (sym (with_other os l k f q) ∙ h)) (cases_eq k l)
 
 module _ {C : Type 0} (n : Net C) (e : Event C) (l a : ℕ) where
-  no_bounds : ((b : ℕ) (lo hi : ℤ) → e.call ≡ rebound b lo hi → ⊥) → (b : ℕ) → ¬ Rebounds b e
-  no_bounds never b (lo, hi, (k, g)) = never b lo hi k
-
-  no_costs : ((b : ℕ) (c : C) → e.call ≡ recost b c → ⊥) → (b : ℕ) → ¬ Recosts b e
-  no_costs never b (c, (k, g)) = never b c k
-
   pub take_out_effect : e.call ≡ take_out l a → Granted e → take_out_stop n l a ≡ None → Effect n e (taken n l a)
   take_out_effect call granted ok =
-      let t = lock_there n.locks l (λ x. line_stop a x ≡ None) (λ h. let z : ◌≡◌ {A = ℕ} 0 1 = cc in omega arith) ok in
+      let t = lock_there n.locks l (λ x. line_stop a x ≡ None) (λ h. cc) ok in
       let o = t.0 in
       let effect : Effect n e (relocked n l (relined 0 a)) = record {
         nodes = refl;
         ends = relocked_ends n l (relined 0 a);
-        bounds = bounds_kept n e (no_bounds no_rebound);
-        costs = costs_kept n e (no_costs no_recost);
+        bounds = bounds_kept n e (λ b (lo, hi, (k, g)). cc);
+        costs = costs_kept n e (λ b (c, (k, g)). cc);
         once = once_changed n.locks l (relined 0 a) o t.1.0 (once_taken o a t.1.1);
         outs = λ once k b. ((λ h. there_now o t.1.0 t.1.1 k b h), (λ h. now_out o t.1.0 t.1.1 k b h));
       } in
       subst (λ s. Effect n e (unless s n (relocked n l (relined 0 a)))) (sym ok) effect
     where
-      no_rebound : (b : ℕ) (lo hi : ℤ) → e.call ≡ rebound b lo hi → ⊥
-      no_rebound b lo hi k = let z : ◌≡◌ {A = ℕ} 0 1 = cc in omega arith
-
-      no_recost : (b : ℕ) (c : C) → e.call ≡ recost b c → ⊥
-      no_recost b c k = let z : ◌≡◌ {A = ℕ} 0 1 = cc in omega arith
-
-      no_back : (k b : ℕ) → ¬ GrantedCall (hand_back k b) e
-      no_back k b (h, g) = let z : ◌≡◌ {A = ℕ} 0 1 = cc in omega arith
-
       there_now : (o : Lock) → lock_at n.locks l ≡ Some o → line_stop a (Some o) ≡ None → (k b : ℕ) → out_of (lock_at (with_lock n.locks l (relined 0 a)) k) b ≡ true → GrantedCall (take_out k b) e ⊎ ((¬ GrantedCall (hand_back k b) e) × (out_in n k b ≡ true))
       there_now o is free k b h = ⊎_elim
           (λ (q : k ≡ l). ⊎_elim
           (λ (r : b ≡ a). inl (call ∙ ap (λ j. take_out j a) (sym q) ∙ ap (take_out k) (sym r), granted))
-          (λ (r : out_at o b ≡ true). inr (no_back k b, named_out n.locks l k b o is q ∙ r))
+          (λ (r : out_at o b ≡ true). inr ((λ (c, g). cc), named_out n.locks l k b o is q ∙ r))
           (taken_out o a free b (sym (changed_out n.locks l k b (relined 0 a) o is q) ∙ h)))
-          (λ (q : k ≡ l → ⊥). inr (no_back k b, sym (other_out n.locks l k b (relined 0 a) q) ∙ h)) (cases_eq k l)
+          (λ (q : k ≡ l → ⊥). inr ((λ (c, g). cc), sym (other_out n.locks l k b (relined 0 a) q) ∙ h)) (cases_eq k l)
 
       now_out : (o : Lock) → lock_at n.locks l ≡ Some o → line_stop a (Some o) ≡ None → (k b : ℕ) → GrantedCall (take_out k b) e ⊎ ((¬ GrantedCall (hand_back k b) e) × (out_in n k b ≡ true)) → out_of (lock_at (with_lock n.locks l (relined 0 a)) k) b ≡ true
       now_out o is free k b (inl (c, g)) =
@@ -310,14 +260,14 @@ module _ {C : Type 0} (n : Net C) (e : Event C) (l a : ℕ) where
 
   pub hand_back_effect : e.call ≡ hand_back l a → Granted e → hand_back_stop n l a ≡ None → Effect n e (handed_back n l a)
   hand_back_effect call granted ok =
-      let t = lock_there n.locks l (λ x. back_stop a x ≡ None) (λ h. let z : ◌≡◌ {A = ℕ} 0 1 = cc in omega arith) ok in
+      let t = lock_there n.locks l (λ x. back_stop a x ≡ None) (λ h. cc) ok in
       let o = t.0 in
       let out : out_at o a ≡ true = is_there (out_at o a) t.1.1 in
       let effect : Effect n e (relocked n l (relined a 0)) = record {
         nodes = refl;
         ends = relocked_ends n l (relined a 0);
-        bounds = bounds_kept n e (no_bounds no_rebound);
-        costs = costs_kept n e (no_costs no_recost);
+        bounds = bounds_kept n e (λ b (lo, hi, (k, g)). cc);
+        costs = costs_kept n e (λ b (c, (k, g)). cc);
         once = once_changed n.locks l (relined a 0) o t.1.0 (once_handed o a out);
         outs = λ once k b. ((λ h. there_still o t.1.0 out (once l o t.1.0) k b h), (λ h. still_out o t.1.0 out k b h));
       } in
@@ -325,13 +275,7 @@ module _ {C : Type 0} (n : Net C) (e : Event C) (l a : ℕ) where
     where
       is_there : (b : Bool) → cond {A = Option Told} b None (Some (12, a)) ≡ None → b ≡ true
       is_there true h = refl
-      is_there false h = absurd (let z : ◌≡◌ {A = ℕ} 0 1 = cc in omega arith)
-
-      no_rebound : (b : ℕ) (lo hi : ℤ) → e.call ≡ rebound b lo hi → ⊥
-      no_rebound b lo hi k = let z : ◌≡◌ {A = ℕ} 0 1 = cc in omega arith
-
-      no_recost : (b : ℕ) (c : C) → e.call ≡ recost b c → ⊥
-      no_recost b c k = let z : ◌≡◌ {A = ℕ} 0 1 = cc in omega arith
+      is_there false h = absurd cc
 
       another_lock : (k b : ℕ) → (k ≡ l → ⊥) → ¬ GrantedCall (hand_back k b) e
       another_lock k b ne (h, g) = ne (let q : k ≡ l = cc in q)
@@ -347,7 +291,7 @@ module _ {C : Type 0} (n : Net C) (e : Event C) (l a : ℕ) where
           (λ (q : k ≡ l → ⊥). inr (another_lock k b q, sym (other_out n.locks l k b (relined a 0) q) ∙ h)) (cases_eq k l)
 
       still_out : (o : Lock) → lock_at n.locks l ≡ Some o → out_at o a ≡ true → (k b : ℕ) → GrantedCall (take_out k b) e ⊎ ((¬ GrantedCall (hand_back k b) e) × (out_in n k b ≡ true)) → out_of (lock_at (with_lock n.locks l (relined a 0)) k) b ≡ true
-      still_out o is out k b (inl (c, g)) = absurd (let z : ◌≡◌ {A = ℕ} 0 1 = cc in omega arith)
+      still_out o is out k b (inl (c, g)) = absurd cc
       still_out o is out k b (inr (kept, h)) = ⊎_elim
           (λ (q : k ≡ l).
           let ne : b ≡ a → ⊥ = λ r. kept (call ∙ ap (λ j. hand_back j a) (sym q) ∙ ap (hand_back k) (sym r), granted) in

@@ -2,7 +2,7 @@
 use Rattle.std.proofs.Common.{◌≡◌, ℕ, ◌-◌, ◌<◌, ◌≤◌, Bool, true, false, ◌⊎◌, ◌↔◌, List, [], ◌∷◌, ◌++◌, length, get_or, ℤ, pos, Some, sym, refl, ap, ◌∙◌, subst, subst₂, inl, inr, arith}
 use Rattle.std.specs.List.{AllByRecursion}
 use Rattle.std.proofs.ByRecursion.{All-push}
-use Rattle.std.proofs.lemmas.Bool.{cond-true, cond-false}
+use Rattle.std.proofs.lemmas.Bool.{cond-true, cond-false, false≢true}
 use Rattle.costs.specs.Kinds.{Kind, Laws, sums}
 use Rattle.networks.specs.declared.network.Arc.{Arc}
 use Rattle.networks.specs.Nets.{Net, numbered, shown, shown_arc, is_out, arc_at}
@@ -22,9 +22,6 @@ use Rattle.runs.proofs.Ends.{ends_refl, ends_trans, ends_long}
 use Rattle.runs.proofs.Locks.{some_out, nowhere_out}
 use Rattle.runs.proofs.Effects.{Effect, OnceEach, arc_beneath}
 use Rattle.runs.proofs.Ways.{Way, way_refused, way_settled, way_changed, way_taken_up, SettlePasses, way_of, idle, effect_of, needs_of, meets_of, all_ends}
-
-off_on : false ≡ true → ⊥
-off_on e = let z : ◌≡◌ {A = ℕ} 0 1 = cc in omega arith
 
 -- ---- what a network shows, by what lies beneath
 
@@ -83,7 +80,7 @@ module _ {C : Type 0} (K : Kind C) where
           least_is_least = λ cost laps last. absurd (since_none (λ e. e.outcome ≡ settled (least cost laps)) Granted last);
           none_is_none = λ last. absurd (since_none (λ e. e.outcome ≡ settled none) Granted last);
           ended = tt;
-          outs = λ clean l a. ((λ h. absurd (off_on (sym (clean l a) ∙ h))), λ h. absurd (since_none (GrantedCall (take_out l a)) (GrantedCall (hand_back l a)) h));
+          outs = λ clean l a. ((λ h. absurd (false≢true (sym (clean l a) ∙ h))), λ h. absurd (since_none (GrantedCall (take_out l a)) (GrantedCall (hand_back l a)) h));
           shut = shut_arc o.net;
           bounds = λ clean a x h clear. let r = arc_beneath o.net a x h in let e = open_arc o.net a x r.0 h r.1.0 clear in
               subst (λ z. BoundsAre o [] a z.lo z.hi) (sym e) (beneath clean a r.0 r.1.0);
@@ -91,7 +88,7 @@ module _ {C : Type 0} (K : Kind C) where
         };
         beneath = beneath;
         costs = costs;
-        once = λ clean l p h i j hi hj same out. absurd (off_on (sym (clean l (get_or p.lines i 0)) ∙ ap (λ x. out_of x (get_or p.lines i 0)) h ∙ out));
+        once = λ clean l p h i j hi hj same out. absurd (false≢true (sym (clean l (get_or p.lines i 0)) ∙ ap (λ x. out_of x (get_or p.lines i 0)) h ∙ out));
       }
 
   module _ (laws : Laws K) (o p q : State C) (es : List (Event C)) (e : Event C) (t : Track K o es p) (w : Way K p e q) where
@@ -151,9 +148,9 @@ module _ {C : Type 0} (K : Kind C) where
     least_now cost laps is = go w
       where
         go : Way K p e q → LeastAt cost q
-        go (way_refused s not_so same) = absurd (let z : ◌≡◌ {A = ℕ} 0 1 = cc in omega arith)
-        go (way_changed c not_so f same) = absurd (let z : ◌≡◌ {A = ℕ} 0 1 = cc in omega arith)
-        go (way_taken_up fs c not_so ok same) = absurd (let z : ◌≡◌ {A = ℕ} 0 1 = cc in omega arith)
+        go (way_refused s not_so same) = absurd cc
+        go (way_changed c not_so f same) = absurd cc
+        go (way_taken_up fs c not_so ok same) = absurd cc
         go (way_settled b x c so ok same s) =
             let x-is : x ≡ least cost laps = cc in
             let r = (subst (λ y. Settles K p.net.nodes (shown p.net) b p.tables y q.tables) x-is s).answers in
@@ -174,9 +171,9 @@ module _ {C : Type 0} (K : Kind C) where
     none_now is = go w
       where
         go : Way K p e q → NoneAt q
-        go (way_refused s not_so same) = absurd (let z : ◌≡◌ {A = ℕ} 0 1 = cc in omega arith)
-        go (way_changed c not_so f same) = absurd (let z : ◌≡◌ {A = ℕ} 0 1 = cc in omega arith)
-        go (way_taken_up fs c not_so ok same) = absurd (let z : ◌≡◌ {A = ℕ} 0 1 = cc in omega arith)
+        go (way_refused s not_so same) = absurd cc
+        go (way_changed c not_so f same) = absurd cc
+        go (way_taken_up fs c not_so ok same) = absurd cc
         go (way_settled b x c so ok same s) =
             let x-is : x ≡ none = cc in
             let r = (subst (λ y. Settles K p.net.nodes (shown p.net) b p.tables y q.tables) x-is s).answers in
@@ -207,9 +204,9 @@ module _ {C : Type 0} (K : Kind C) where
             absurd (omega (arith, below, enough, r.whole_budget, same))
 
         go : Way K p e q → CameToAnEnd e.outcome
-        go (way_refused s is same) = absurd (off_on (sym (ap is_granted is) ∙ g))
+        go (way_refused s is same) = absurd (false≢true (sym (ap is_granted is) ∙ g))
         go (way_changed no-settle is f same) = absurd (no-settle budget c)
-        go (way_taken_up fs k is ok same) = absurd (let z : ◌≡◌ {A = ℕ} 0 1 = cc in omega arith)
+        go (way_taken_up fs k is ok same) = absurd cc
         go (way_settled b x k is ok same s) = by_answer b x (cc) is s
 
     pub track_more : Track K o (es ++ (e ∷ [])) q

@@ -33,7 +33,7 @@ out_is : (o : Lock) (b : ℕ) → out_at o b ≡ true → Named b × Holds o.lin
 out_is o b h = let p = go (eqb b 0) (has b o.lines) h in (p.0, has_holds b o.lines p.1)
   where
     go : (g t : Bool) → cond g false t ≡ true → (g ≡ false) × (t ≡ true)
-    go true t e = absurd (let z : ◌≡◌ {A = ℕ} 0 1 = cc in omega arith)
+    go true t e = absurd cc
     go false t e = (refl, e)
 
 is_out : (o : Lock) (b : ℕ) → Named b → Holds o.lines b → out_at o b ≡ true
@@ -60,9 +60,9 @@ kept xs k v i b q h e = let long = length-set xs k v in (i, (omega (arith, long)
 -- ---- a take-out that is granted
 
 free : (p q r : Bool) (s t u : Told) → cond p (Some s) (cond q (Some t) (cond r None (Some u))) ≡ None → (p ≡ false) × (q ≡ false) × (r ≡ true)
-free true q r s t u e = absurd (let z : ◌≡◌ {A = ℕ} 0 1 = cc in omega arith)
-free false true r s t u e = absurd (let z : ◌≡◌ {A = ℕ} 0 1 = cc in omega arith)
-free false false false s t u e = absurd (let z : ◌≡◌ {A = ℕ} 0 1 = cc in omega arith)
+free true q r s t u e = absurd cc
+free false true r s t u e = absurd cc
+free false false false s t u e = absurd cc
 free false false true s t u e = (refl, refl, refl)
 
 module _ (o : Lock) (a : ℕ) (ok : line_stop a (Some o) ≡ None) where

@@ -1,12 +1,9 @@
 -- Lock-outs of a pile: which one a number names after another was changed, and when an arc is out at some.
 use Rattle.std.proofs.Common.{◌≡◌, ℕ, suc, ◌≤◌, Bool, true, false, cond, eqb, List, [], ◌∷◌, length, Some, sym, refl, ap, ◌∙◌, arith}
 use Rattle.std.specs.Option.{option_map}
-use Rattle.std.proofs.lemmas.Bool.{cond-true, cond-false, eqb-true, eq-eqb, ne_eqb}
+use Rattle.std.proofs.lemmas.Bool.{cond-true, cond-false, eqb-true, eq-eqb, ne_eqb, false≢true}
 use Rattle.networks.specs.Nets.{Lock, out_at, is_out, lock_at, with_lock}
 use Rattle.runs.specs.States.{out_of}
-
-off_on : false ≡ true → ⊥
-off_on e = let z : ◌≡◌ {A = ℕ} 0 1 = cc in omega arith
 
 length_with : (os : List Lock) (l : ℕ) (f : Lock → Lock) → length (with_lock os l f) ≡ length os
 length_with [] l f = refl
@@ -42,7 +39,7 @@ with_other (o ∷ os) l k f ne = go (with_other os l k f ne) (eqb l (suc (length
 
 -- what is out at a lock-out that a number names
 lock_small : (os : List Lock) (l a : ℕ) → out_of (lock_at os l) a ≡ true → l ≤ length os
-lock_small [] l a h = absurd (off_on h)
+lock_small [] l a h = absurd cc
 lock_small (o ∷ os) l a h = go (lock_small os l a) (eqb l (suc (length os))) refl h
   where
     go : (out_of (lock_at os l) a ≡ true → l ≤ length os) → (b : Bool) → eqb l (suc (length os)) ≡ b → out_of (cond b (Some o) (lock_at os l)) a ≡ true → l ≤ suc (length os)
@@ -51,7 +48,7 @@ lock_small (o ∷ os) l a h = go (lock_small os l a) (eqb l (suc (length os))) r
 
 -- out at one is out at some
 pub some_out : (os : List Lock) (l a : ℕ) → out_of (lock_at os l) a ≡ true → is_out os a ≡ true
-some_out [] l a h = absurd (off_on h)
+some_out [] l a h = absurd cc
 some_out (o ∷ os) l a h = go (some_out os l a) (eqb l (suc (length os))) h
   where
     later : (c : Bool) → is_out os a ≡ true → cond c true (is_out os a) ≡ true
@@ -64,7 +61,7 @@ some_out (o ∷ os) l a h = go (some_out os l a) (eqb l (suc (length os))) h
 
 -- out at some is out at one
 pub out_some : (os : List Lock) (a : ℕ) → is_out os a ≡ true → (l : ℕ) × (out_of (lock_at os l) a ≡ true)
-out_some [] a h = absurd (off_on h)
+out_some [] a h = absurd cc
 out_some (o ∷ os) a h = go (out_some os a) (out_at o a) refl h
   where
     go : (is_out os a ≡ true → (l : ℕ) × (out_of (lock_at os l) a ≡ true)) → (b : Bool) → out_at o a ≡ b → cond b true (is_out os a) ≡ true → (l : ℕ) × (out_of (lock_at (o ∷ os) l) a ≡ true)
@@ -78,5 +75,5 @@ pub nowhere_out : (os : List Lock) (a : ℕ) → ((l : ℕ) → out_of (lock_at 
 nowhere_out os a none = go (is_out os a) refl
   where
     go : (b : Bool) → is_out os a ≡ b → b ≡ false
-    go true e = let r = out_some os a e in absurd (off_on (sym (none r.0) ∙ r.1))
+    go true e = let r = out_some os a e in absurd (false≢true (sym (none r.0) ∙ r.1))
     go false e = refl

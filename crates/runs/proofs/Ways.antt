@@ -31,7 +31,7 @@ pub data Way {C : Type 0} (K : Kind C) (p : State C) (e : Event C) (q : State C)
 -- a flow that may be taken up could be settled
 settles_then : (x y : Bool) (r : Option Told) (s : Told) → cond (x && y) r (Some s) ≡ None → cond y r (Some s) ≡ None
 settles_then true y r s e = e
-settles_then false y r s e = absurd (let z : ◌≡◌ {A = ℕ} 0 1 = cc in omega arith)
+settles_then false y r s e = absurd cc
 
 taken_passes : {C : Type 0} (size : C → ℕ) (n : Net C) (own : ℕ) (fs needs : List ℤ) (prices marks : ℕ) → take_up_stop size n own fs needs prices marks ≡ None → first_stop size n fs needs prices marks ≡ None
 taken_passes size n own fs needs prices marks e = go (counts_fit n.nodes (length n.arcs)) e
@@ -54,13 +54,13 @@ module _ {C : Type 0} (K : Kind C) (p : State C) (e : Event C) (q : State C) whe
   by_call : (c : Asked C) → e.call ≡ c → stop_of K p c ≡ None → Grants K p c e.outcome q → Way K p e q
   by_call (settle budget) c ok (x, is, same, s) = way_settled budget x c is ok same s
   by_call (rebound a lo hi) c ok (is, same) =
-      way_changed (λ b k. let z : ◌≡◌ {A = ℕ} 0 1 = cc in omega arith) is (subst (λ m. Effect p.net e m) (sym (ap (λ z. z.net) same)) (rebound_effect p.net e a lo hi c (on_done is) ok)) (ap (λ z. z.tables) same)
+      way_changed (λ b k. cc) is (subst (λ m. Effect p.net e m) (sym (ap (λ z. z.net) same)) (rebound_effect p.net e a lo hi c (on_done is) ok)) (ap (λ z. z.tables) same)
   by_call (recost a d) c ok (is, same) =
-      way_changed (λ b k. let z : ◌≡◌ {A = ℕ} 0 1 = cc in omega arith) is (subst (λ m. Effect p.net e m) (sym (ap (λ z. z.net) same)) (recost_effect K.size p.net e a d c (on_done is) ok)) (ap (λ z. z.tables) same)
+      way_changed (λ b k. cc) is (subst (λ m. Effect p.net e m) (sym (ap (λ z. z.net) same)) (recost_effect K.size p.net e a d c (on_done is) ok)) (ap (λ z. z.tables) same)
   by_call (take_out l a) c ok (is, same) =
-      way_changed (λ b k. let z : ◌≡◌ {A = ℕ} 0 1 = cc in omega arith) is (subst (λ m. Effect p.net e m) (sym (ap (λ z. z.net) same)) (take_out_effect p.net e l a c (on_done is) ok)) (ap (λ z. z.tables) same)
+      way_changed (λ b k. cc) is (subst (λ m. Effect p.net e m) (sym (ap (λ z. z.net) same)) (take_out_effect p.net e l a c (on_done is) ok)) (ap (λ z. z.tables) same)
   by_call (hand_back l a) c ok (is, same) =
-      way_changed (λ b k. let z : ◌≡◌ {A = ℕ} 0 1 = cc in omega arith) is (subst (λ m. Effect p.net e m) (sym (ap (λ z. z.net) same)) (hand_back_effect p.net e l a c (on_done is) ok)) (ap (λ z. z.tables) same)
+      way_changed (λ b k. cc) is (subst (λ m. Effect p.net e m) (sym (ap (λ z. z.net) same)) (hand_back_effect p.net e l a c (on_done is) ok)) (ap (λ z. z.tables) same)
   by_call (take_up fs) c ok (is, same) =
       way_taken_up fs c is (taken_passes K.size p.net (length p.tables.flow) fs p.tables.needs (length p.tables.prices) (length p.tables.marks) ok) same
 
@@ -87,22 +87,22 @@ module _ {C : Type 0} (K : Kind C) (p : State C) (e : Event C) (q : State C) whe
   }
     where
       never : Granted e → ⊥
-      never g = let bad : false ≡ true = sym (ap is_granted is) ∙ g in let z : ◌≡◌ {A = ℕ} 0 1 = cc in omega arith
+      never g = let bad : false ≡ true = sym (ap is_granted is) ∙ g in cc
 
   none_of_settle : (b : ℕ) → e.call ≡ settle b → NotOf e
   none_of_settle b c = record {
-    no_rebound = λ a (lo, hi, (k, g)). let z : ◌≡◌ {A = ℕ} 0 1 = cc in omega arith;
-    no_recost = λ a (d, (k, g)). let z : ◌≡◌ {A = ℕ} 0 1 = cc in omega arith;
-    no_take_out = λ l a (k, g). let z : ◌≡◌ {A = ℕ} 0 1 = cc in omega arith;
-    no_hand_back = λ l a (k, g). let z : ◌≡◌ {A = ℕ} 0 1 = cc in omega arith;
+    no_rebound = λ a (lo, hi, (k, g)). cc;
+    no_recost = λ a (d, (k, g)). cc;
+    no_take_out = λ l a (k, g). cc;
+    no_hand_back = λ l a (k, g). cc;
   }
 
   none_of_take_up : (fs : List ℤ) → e.call ≡ take_up fs → NotOf e
   none_of_take_up fs c = record {
-    no_rebound = λ a (lo, hi, (k, g)). let z : ◌≡◌ {A = ℕ} 0 1 = cc in omega arith;
-    no_recost = λ a (d, (k, g)). let z : ◌≡◌ {A = ℕ} 0 1 = cc in omega arith;
-    no_take_out = λ l a (k, g). let z : ◌≡◌ {A = ℕ} 0 1 = cc in omega arith;
-    no_hand_back = λ l a (k, g). let z : ◌≡◌ {A = ℕ} 0 1 = cc in omega arith;
+    no_rebound = λ a (lo, hi, (k, g)). cc;
+    no_recost = λ a (d, (k, g)). cc;
+    no_take_out = λ l a (k, g). cc;
+    no_hand_back = λ l a (k, g). cc;
   }
 
   -- what the event does to the network

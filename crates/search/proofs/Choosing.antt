@@ -32,12 +32,12 @@ module _ {C : Type 0} (K : Kind C) (laws : Laws K) where
   ways false false true true t u false e = absurd (let z : ◌≡◌ {A = Bool} true false = cc in let w : ◌≡◌ {A = ℕ} 0 1 = ap (λ b. cond b 0 1) z in omega arith)
   ways false false true false true true false e = inr (refl, inr (refl, refl))
   ways false false true false true true true e = absurd (let z : ◌≡◌ {A = Bool} true false = cc in let w : ◌≡◌ {A = ℕ} 0 1 = ap (λ b. cond b 0 1) z in omega arith)
-  ways false false true false true false along e = absurd (let z : ◌≡◌ {A = ℕ} 0 1 = cc in omega arith)
-  ways false false true false false u along e = absurd (let z : ◌≡◌ {A = ℕ} 0 1 = cc in omega arith)
+  ways false false true false true false along e = absurd cc
+  ways false false true false false u along e = absurd cc
   ways false false false s true true false e = inr (refl, inr (refl, refl))
   ways false false false s true true true e = absurd (let z : ◌≡◌ {A = Bool} true false = cc in let w : ◌≡◌ {A = ℕ} 0 1 = ap (λ b. cond b 0 1) z in omega arith)
-  ways false false false s true false along e = absurd (let z : ◌≡◌ {A = ℕ} 0 1 = cc in omega arith)
-  ways false false false s false u along e = absurd (let z : ◌≡◌ {A = ℕ} 0 1 = cc in omega arith)
+  ways false false false s true false along e = absurd cc
+  ways false false false s false u along e = absurd cc
 
   -- what the way says of the arc
   wants : (c : C) (a : Arc C) (f : ℤ) (along : Bool) → Some along ≡ way K c a f → ((along ≡ true) × WantsMore K c a f) ⊎ ((along ≡ false) × WantsLess K c a f)

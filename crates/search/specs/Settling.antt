@@ -6,7 +6,7 @@ use Rattle.networks.specs.declared.stops.Stop.{Stop}
 use Rattle.networks.specs.Nets.{Net, shown}
 use Rattle.flows.specs.Settles.{Tables, Answered, least, paused, none, Settles, InWords}
 use Rattle.search.specs.declared.seek.Halt.{Halt}
-use Rattle.search.specs.declared.settling.Found.{Found}
+use Rattle.search.specs.declared.seek.Halt.TheVariants as halt
 use Rattle.search.specs.declared.settling.Answer.{Answer}
 use Rattle.search.specs.declared.settling.Answer.TheVariants.{Least, Paused, None}
 
@@ -22,10 +22,17 @@ abbrev pub restored : Option (List ℤ) → List ℤ → List ℤ
 restored prelude.None flow = flow
 restored (Some saved) flow = take (length flow) saved
 
--- the laps of a search that found a flow, or why it stopped
-abbrev pub laps_of : {C : Type 0} → Result (Found C) Halt → Result ℕ Halt
-laps_of (Ok f) = Ok f.laps
-laps_of (Err h) = Err h
+-- how the seeking ended, by its answer
+abbrev pub end_of : {C : Type 0} → Answer C → Result ℕ Halt
+end_of (Least total laps) = Ok laps
+end_of (Paused laps) = Err (halt.Paused laps)
+end_of None = Err halt.Cut
+
+-- where the answer has a total, it is c
+abbrev pub HasTotal : {C : Type 0} → Answer C → C → Type 0
+HasTotal (Least total laps) c = total ≡ c
+HasTotal (Paused laps) c = Unit {0}
+HasTotal None c = Unit {0}
 
 -- the answer, in the words of the rules
 abbrev pub answered : {C : Type 0} → Answer C → Answered C

@@ -2,12 +2,15 @@
 //
 // `settle` answers least with the total and the laps, paused with the laps, or none; it refuses exactly
 // when the first stop says so. A guard over the lent flow puts it back as found unless the search commits,
-// which it does on the ways of least and paused only. Nothing is allocated.
+// which it does for the answers least and paused only. `full_budget` is so much that settle never pauses.
+// Nothing is allocated.
 #![tactic(auto)]
 
 mod attempts;
+mod budgets;
 mod guard;
 mod seek;
 mod settling;
 
+pub use budgets::full_budget;
 pub use settling::{Answer, settle};

@@ -1,6 +1,6 @@
 // Settle: the search for a least-cost flow from the flow found, with its answer.
 
-ghost use Rattle.std.specs.Prelude.{◌≡◌, ℕ, ◌<◌, ◌≤◌, cond, length, slice_index, slice_index_or, IfOk};
+ghost use Rattle.std.specs.Prelude.{◌≡◌, ℕ, ◌<◌, ◌≤◌, cond, length, slice_index, slice_index_or};
 ghost use Rattle.networks.specs.Answers.{refusal};
 ghost use Rattle.networks.specs.Nets.{shown};
 ghost use Rattle.flows.specs.Fits.{Fitting};
@@ -9,7 +9,7 @@ ghost use Rattle.flows.specs.Flows.{total as total_of};
 ghost use Rattle.flows.specs.Stops.{first_stop as first_stop_of};
 ghost use Rattle.costs.specs.Kinds.{sums};
 ghost use Rattle.search.specs.Going.{Going, Ended};
-ghost use Rattle.search.specs.Settling.{read_price_as, laps_of, tables, Settled, Worded};
+ghost use Rattle.search.specs.Settling.{read_price_as, end_of, HasTotal, tables, Settled, Worded};
 
 use crate::guard::{Restore, save};
 use crate::seek::{Halt, seek};
@@ -19,7 +19,7 @@ use networks::{Network, Stop};
 use tidy::tidy;
 
 // What settle answers: a least flow with its total, a pause where the budget is used up, or that there is no flow.
-#[derive(Clone, Copy, Debug, PartialEq)]
+#[derive(Clone, Copy, Debug, PartialEq, Eq)]
 pub enum Answer<C> {
     Least { total: C, laps: u32 },
     Paused { laps: u32 },
@@ -30,11 +30,7 @@ pub enum Answer<C> {
 fn largest_cost<N: Network>(net: &N) -> u64
     ensures { result ≡ largest N.Cost.CostKind.kind (shown (N.meaning net.now)) }
 {
-    let mut most = 0;
-    for arc in arcs_of(net) {
-        most = most.max(arc.cost.size());
-    }
-    most
+    arcs_of(net).map(|arc| arc.cost.size()).max().unwrap_or(0)
 }
 
 // A price found too large is read as zero.
@@ -58,32 +54,28 @@ fn clear(marks: &mut [u8])
     marks.fill(0);
 }
 
-// The laps that the search made, and the total of the flow that it left.
-#[derive(Clone, Copy)]
-pub struct Found<C> {
-    pub laps: u32,
-    pub total: C,
-}
-
-// Seeks, and adds up what the flow costs where one is found.
+// Seeks, and answers how that ended, with what the flow costs where one is found.
 fn search<N: Network>(
     net: &N,
     flow: &mut [i32],
     prices: &mut [N::Cost],
     marks: &mut [u8],
     budget: u32,
-) -> Result<Found<N::Cost>, Halt>
+) -> Answer<N::Cost>
     requires going { Going N.Cost.CostKind.kind (N.meaning net.now).nodes (shown (N.meaning net.now)) flow.old 0 0 flow.old prices.old }
     requires few { length flow.old ≤ 1024 }
     requires marks { length marks.old ≡ (N.meaning net.now).nodes }
-    ensures ended { Ended N.Cost.CostKind.kind (N.meaning net.now).nodes (shown (N.meaning net.now)) flow.old (length flow.old) budget flow.new prices.new marks.old marks.new (laps_of result) }
-    ensures total { IfOk result (λ f. f.total ≡ total_of (sums N.Cost.CostKind.kind) (shown (N.meaning net.now)) flow.new) }
+    ensures ended { Ended N.Cost.CostKind.kind (N.meaning net.now).nodes (shown (N.meaning net.now)) flow.old (length flow.old) budget flow.new prices.new marks.old marks.new (end_of result) }
+    ensures total { HasTotal result (total_of (sums N.Cost.CostKind.kind) (shown (N.meaning net.now)) flow.new) }
 {
-    let laps = seek(net, flow, prices, marks, budget)?;
-    Ok(Found {
-        laps,
-        total: total(net, flow),
-    })
+    match seek(net, flow, prices, marks, budget) {
+        Ok(laps) => Answer::Least {
+            total: total(net, flow),
+            laps,
+        },
+        Err(Halt::Paused(laps)) => Answer::Paused { laps },
+        Err(Halt::Cut) => Answer::None,
+    }
 }
 
 // Searches for a least-cost flow with the imbalances of the flow found, by at most that many laps.
@@ -105,22 +97,10 @@ pub fn settle<N: Network>(
     clear(marks);
     let saved = Some(save(flow));
     let mut guard = Restore { flow, saved };
-    let found = search(net, guard.flow, prices, marks, budget);
+    let answer = search(net, guard.flow, prices, marks, budget);
     tidy(net, prices);
-    match found {
-        Ok(found) => {
-            guard.saved = None;
-            Ok(Answer::Least {
-                total: found.total,
-                laps: found.laps,
-            })
-        }
-        Err(halt) => match halt {
-            Halt::Cut => Ok(Answer::None),
-            Halt::Paused(laps) => {
-                guard.saved = None;
-                Ok(Answer::Paused { laps })
-            }
-        },
+    if !matches!(answer, Answer::None) {
+        guard.saved = None;
     }
+    Ok(answer)
 }

@@ -10,7 +10,7 @@ link-requires-clause-room g c =
     let K = g.N.Cost.CostKind.kind in
     let arcs = shown (g.N.Network.meaning c.args.net.now) in
     let ripe = subst (Scanned K arcs c.args.flow.now c.args.prices.now c.args.chosen.arc c.args.labels.now _) c.in-Break.is c.look_round.ensures in
-    link_room K arcs c.args.flow.now c.args.prices.now c.args.chosen.arc c.requires.few c.args.labels.now c.requires.good c.requires.fitting c.in-Break.over ripe c.arc.result c.arc.ensures.is
+    link_room K arcs c.args.flow.now c.args.prices.now c.args.chosen.arc c.requires.few c.args.labels.now c.requires.searching.good c.requires.searching.fitting c.in-Break.over ripe c.arc.result c.arc.ensures.is
 
 pub returns-in-Break : goal.returns-in-Break
 returns-in-Break g c =
@@ -19,4 +19,4 @@ returns-in-Break g c =
     let ripe = subst (Scanned K arcs c.args.flow.now c.args.prices.now c.args.chosen.arc c.args.labels.now _) c.in-Break.is c.look_round.ensures in
     let ms = c.link.new.labels in
     let e = c.link.ensures in
-    open_done K arcs c.args.flow.now c.args.prices.now c.args.chosen c.args.labels.now ms c.requires.good.some c.requires.chosen c.requires.long (link_good K arcs c.args.flow.now c.args.prices.now c.args.chosen.arc c.requires.few c.args.labels.now c.requires.good c.requires.fitting c.in-Break.over ripe c.arc.result c.arc.ensures.is ms e) (link_grown K arcs c.args.flow.now c.args.prices.now c.args.chosen.arc c.requires.few c.args.labels.now c.requires.good c.requires.fitting c.in-Break.over ripe c.arc.result c.arc.ensures.is ms e) (link_more K arcs c.args.flow.now c.args.prices.now c.args.chosen.arc c.requires.few c.args.labels.now c.requires.good c.requires.fitting c.in-Break.over ripe c.arc.result c.arc.ensures.is ms e)
+    open_done K arcs c.args.flow.now c.args.prices.now c.args.chosen c.args.labels.now ms c.requires.searching.good.some c.requires.searching.wanted c.requires.searching.long (link_good K arcs c.args.flow.now c.args.prices.now c.args.chosen.arc c.requires.few c.args.labels.now c.requires.searching.good c.requires.searching.fitting c.in-Break.over ripe c.arc.result c.arc.ensures.is ms e) (link_grown K arcs c.args.flow.now c.args.prices.now c.args.chosen.arc c.requires.few c.args.labels.now c.requires.searching.good c.requires.searching.fitting c.in-Break.over ripe c.arc.result c.arc.ensures.is ms e) (link_more K arcs c.args.flow.now c.args.prices.now c.args.chosen.arc c.requires.few c.args.labels.now c.requires.searching.good c.requires.searching.fitting c.in-Break.over ripe c.arc.result c.arc.ensures.is ms e)

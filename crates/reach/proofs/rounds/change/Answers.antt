@@ -1,4 +1,4 @@
-use Rattle.std.proofs.Common.{◌≡◌, ◌≤◌, length, Some, Err, sym, ap, ◌∙◌, subst, arith}
+use Rattle.std.proofs.Common.{◌≡◌, Some, Err, sym, ap, ◌∙◌, subst}
 use Rattle.std.specs.Option.{ok_or}
 use Rattle.std.specs.Result.{result_ok}
 use Rattle.std.proofs.lemmas.Result.{err_from_is_err_and}
@@ -6,8 +6,7 @@ use Rattle.networks.specs.Nets.{shown}
 use Rattle.reach.specs.declared.rounds.Over.TheVariants.{Cut}
 use Rattle.reach.specs.Rises.{NextIs}
 use Rattle.reach.specs.Rounds.{Advanced}
-use Rattle.reach.proofs.Ripening.{link_near, link_room, link_good, link_grown, link_more}
-use Rattle.reach.proofs.Turning.{cut_done, kilter_small, kilter_done, label_small, label_short, label_fitting, label_good, label_ripe, label_done}
+use Rattle.reach.proofs.Turning.{cut_done, kilter_small, kilter_done, label_small, label_short, label_near, label_room, label_done}
 use Rattle.reach.proofs.rounds.change.Goals as goal
 
 pub returns-in_err-by : goal.returns-in_err-by
@@ -18,83 +17,41 @@ returns-in_err-by g c =
     let p = err_from_is_err_and c.from_residual.result c.from_residual.ensures.1 in
     let cut : Err c.in_err-by.field-0.0 ≡ Err Cut = sym c.in_err-by.was ∙ c.ok_or.ensures.value ∙ ap (λ o. ok_or o Cut) none in
     let is : c.in_err-by.field-0.0 ≡ Cut = let k = cut in cc in
+    let next = subst (NextIs K arcs c.args.flow.now c.args.prices.now c.args.chosen c.args.best) none c.next_rise.ensures in
     subst (Advanced K arcs c.args.flow.now c.args.prices.now c.args.prices.now c.args.chosen c.args.labels.now c.args.labels.now) (sym (p.1 ∙ ap Err (p.2 ∙ is)))
-    (cut_done g.N.Cost.CostKind.kind g.met.N.Cost.CostKind.lawful (shown (g.N.Network.meaning c.args.net.now)) c.args.flow.now c.args.prices.now c.args.chosen c.args.labels.now c.requires.fitting c.requires.moderate c.requires.long c.requires.good c.requires.chosen c.requires.sought c.args.best c.requires.sighted (subst (NextIs K arcs c.args.flow.now c.args.prices.now c.args.chosen c.args.best) none c.next_rise.ensures))
+    (cut_done g.met.N.Cost.CostKind.lawful c.requires.searching c.requires.moderate c.requires.sought c.requires.sighted next)
 
 pub raise-requires-clause-small : goal.raise-requires-clause-small
 raise-requires-clause-small g c =
-    let K = g.N.Cost.CostKind.kind in
-    let arcs = shown (g.N.Network.meaning c.args.net.now) in
-    let next = subst (NextIs K arcs c.args.flow.now c.args.prices.now c.args.chosen c.args.best) (c.ok_or.ensures.ok_part ∙ ap result_ok c.in_ok-by.was ∙ ap Some c.in-Kilter.is) c.next_rise.ensures in
-    kilter_small g.N.Cost.CostKind.kind g.met.N.Cost.CostKind.lawful (shown (g.N.Network.meaning c.args.net.now)) c.args.flow.now c.args.prices.now c.args.chosen c.args.labels.now c.requires.fitting c.requires.moderate c.requires.long c.requires.good c.requires.chosen c.requires.sought c.args.best c.requires.sighted c.in-Kilter.by next
+    let next = subst (NextIs g.N.Cost.CostKind.kind (shown (g.N.Network.meaning c.args.net.now)) c.args.flow.now c.args.prices.now c.args.chosen c.args.best) (c.ok_or.ensures.ok_part ∙ ap result_ok c.in_ok-by.was ∙ ap Some c.in-Kilter.is) c.next_rise.ensures in
+    kilter_small g.met.N.Cost.CostKind.lawful c.requires.searching c.requires.moderate c.requires.sought c.requires.sighted next
 
 pub arc-arc-requires : goal.arc-arc-requires
 arc-arc-requires g c =
-    let K = g.N.Cost.CostKind.kind in
-    let arcs = shown (g.N.Network.meaning c.args.net.now) in
-    let next = subst (NextIs K arcs c.args.flow.now c.args.prices.now c.args.chosen c.args.best) (c.ok_or.ensures.ok_part ∙ ap result_ok c.in_ok-by.was ∙ ap Some c.in-Label.is) c.next_rise.ensures in
-    label_short g.N.Cost.CostKind.kind g.met.N.Cost.CostKind.lawful (shown (g.N.Network.meaning c.args.net.now)) c.args.flow.now c.args.prices.now c.args.chosen c.args.labels.now c.requires.fitting c.requires.moderate c.requires.long c.requires.good c.requires.chosen c.requires.sought c.args.best c.requires.sighted c.in-Label.b next
+    let next = subst (NextIs g.N.Cost.CostKind.kind (shown (g.N.Network.meaning c.args.net.now)) c.args.flow.now c.args.prices.now c.args.chosen c.args.best) (c.ok_or.ensures.ok_part ∙ ap result_ok c.in_ok-by.was ∙ ap Some c.in-Label.is) c.next_rise.ensures in
+    label_short g.met.N.Cost.CostKind.lawful c.requires.searching c.requires.moderate c.requires.sought c.requires.sighted next
 
 pub raise-requires-in-Label-clause-small : goal.raise-requires-in-Label-clause-small
 raise-requires-in-Label-clause-small g c =
-    let K = g.N.Cost.CostKind.kind in
-    let arcs = shown (g.N.Network.meaning c.args.net.now) in
-    let next = subst (NextIs K arcs c.args.flow.now c.args.prices.now c.args.chosen c.args.best) (c.ok_or.ensures.ok_part ∙ ap result_ok c.in_ok-by.was ∙ ap Some c.in-Label.is) c.next_rise.ensures in
-    label_small g.N.Cost.CostKind.kind g.met.N.Cost.CostKind.lawful (shown (g.N.Network.meaning c.args.net.now)) c.args.flow.now c.args.prices.now c.args.chosen c.args.labels.now c.requires.fitting c.requires.moderate c.requires.long c.requires.good c.requires.chosen c.requires.sought c.args.best c.requires.sighted c.in-Label.b next
+    let next = subst (NextIs g.N.Cost.CostKind.kind (shown (g.N.Network.meaning c.args.net.now)) c.args.flow.now c.args.prices.now c.args.chosen c.args.best) (c.ok_or.ensures.ok_part ∙ ap result_ok c.in_ok-by.was ∙ ap Some c.in-Label.is) c.next_rise.ensures in
+    label_small g.met.N.Cost.CostKind.lawful c.requires.searching c.requires.moderate c.requires.sought c.requires.sighted next
 
 pub link-requires-clause-near : goal.link-requires-clause-near
 link-requires-clause-near g c =
-    let K = g.N.Cost.CostKind.kind in
-    let arcs = shown (g.N.Network.meaning c.args.net.now) in
-    let next = subst (NextIs K arcs c.args.flow.now c.args.prices.now c.args.chosen c.args.best) (c.ok_or.ensures.ok_part ∙ ap result_ok c.in_ok-by.was ∙ ap Some c.in-Label.is) c.next_rise.ensures in
-    let b = c.in-Label.b in
-    let qs = c.raise-in-Label.new.prices in
-    let ls = c.args.labels.now in
-    let same = c.raise-in-Label.ensures.long in
-    let raised = c.raise-in-Label.ensures.raised in
-    let few : length qs ≤ 256 = omega (arith, same, c.requires.few) in
-    let fitting = label_fitting g.N.Cost.CostKind.kind g.met.N.Cost.CostKind.lawful (shown (g.N.Network.meaning c.args.net.now)) c.args.flow.now c.args.prices.now c.args.chosen c.args.labels.now c.requires.fitting c.requires.moderate c.requires.long c.requires.good c.requires.chosen c.requires.sought c.args.best c.requires.sighted b next qs same raised in
-    let good = label_good g.N.Cost.CostKind.kind g.met.N.Cost.CostKind.lawful (shown (g.N.Network.meaning c.args.net.now)) c.args.flow.now c.args.prices.now c.args.chosen c.args.labels.now c.requires.fitting c.requires.moderate c.requires.long c.requires.good c.requires.chosen c.requires.sought c.args.best c.requires.sighted b next qs same raised in
-    let ripe = label_ripe g.N.Cost.CostKind.kind g.met.N.Cost.CostKind.lawful (shown (g.N.Network.meaning c.args.net.now)) c.args.flow.now c.args.prices.now c.args.chosen c.args.labels.now c.requires.fitting c.requires.moderate c.requires.long c.requires.good c.requires.chosen c.requires.sought c.args.best c.requires.sighted b next qs same raised in
-    link_near K arcs c.args.flow.now qs c.args.chosen.arc few ls good fitting b.over ripe c.arc-arc.result c.arc-arc.ensures.is
+    let next = subst (NextIs g.N.Cost.CostKind.kind (shown (g.N.Network.meaning c.args.net.now)) c.args.flow.now c.args.prices.now c.args.chosen c.args.best) (c.ok_or.ensures.ok_part ∙ ap result_ok c.in_ok-by.was ∙ ap Some c.in-Label.is) c.next_rise.ensures in
+    label_near g.met.N.Cost.CostKind.lawful c.requires.searching c.requires.moderate c.requires.sought c.requires.sighted next _ c.raise-in-Label.ensures.long c.raise-in-Label.ensures.raised c.requires.few c.arc-arc.ensures.is
 
 pub link-requires-clause-room : goal.link-requires-clause-room
 link-requires-clause-room g c =
-    let K = g.N.Cost.CostKind.kind in
-    let arcs = shown (g.N.Network.meaning c.args.net.now) in
-    let next = subst (NextIs K arcs c.args.flow.now c.args.prices.now c.args.chosen c.args.best) (c.ok_or.ensures.ok_part ∙ ap result_ok c.in_ok-by.was ∙ ap Some c.in-Label.is) c.next_rise.ensures in
-    let b = c.in-Label.b in
-    let qs = c.raise-in-Label.new.prices in
-    let ls = c.args.labels.now in
-    let same = c.raise-in-Label.ensures.long in
-    let raised = c.raise-in-Label.ensures.raised in
-    let few : length qs ≤ 256 = omega (arith, same, c.requires.few) in
-    let fitting = label_fitting g.N.Cost.CostKind.kind g.met.N.Cost.CostKind.lawful (shown (g.N.Network.meaning c.args.net.now)) c.args.flow.now c.args.prices.now c.args.chosen c.args.labels.now c.requires.fitting c.requires.moderate c.requires.long c.requires.good c.requires.chosen c.requires.sought c.args.best c.requires.sighted b next qs same raised in
-    let good = label_good g.N.Cost.CostKind.kind g.met.N.Cost.CostKind.lawful (shown (g.N.Network.meaning c.args.net.now)) c.args.flow.now c.args.prices.now c.args.chosen c.args.labels.now c.requires.fitting c.requires.moderate c.requires.long c.requires.good c.requires.chosen c.requires.sought c.args.best c.requires.sighted b next qs same raised in
-    let ripe = label_ripe g.N.Cost.CostKind.kind g.met.N.Cost.CostKind.lawful (shown (g.N.Network.meaning c.args.net.now)) c.args.flow.now c.args.prices.now c.args.chosen c.args.labels.now c.requires.fitting c.requires.moderate c.requires.long c.requires.good c.requires.chosen c.requires.sought c.args.best c.requires.sighted b next qs same raised in
-    link_room K arcs c.args.flow.now qs c.args.chosen.arc few ls good fitting b.over ripe c.arc-arc.result c.arc-arc.ensures.is
+    let next = subst (NextIs g.N.Cost.CostKind.kind (shown (g.N.Network.meaning c.args.net.now)) c.args.flow.now c.args.prices.now c.args.chosen c.args.best) (c.ok_or.ensures.ok_part ∙ ap result_ok c.in_ok-by.was ∙ ap Some c.in-Label.is) c.next_rise.ensures in
+    label_room g.met.N.Cost.CostKind.lawful c.requires.searching c.requires.moderate c.requires.sought c.requires.sighted next _ c.raise-in-Label.ensures.long c.raise-in-Label.ensures.raised c.requires.few c.arc-arc.ensures.is
 
 pub returns-in-Kilter : goal.returns-in-Kilter
 returns-in-Kilter g c =
-    let K = g.N.Cost.CostKind.kind in
-    let arcs = shown (g.N.Network.meaning c.args.net.now) in
-    let next = subst (NextIs K arcs c.args.flow.now c.args.prices.now c.args.chosen c.args.best) (c.ok_or.ensures.ok_part ∙ ap result_ok c.in_ok-by.was ∙ ap Some c.in-Kilter.is) c.next_rise.ensures in
-    kilter_done g.N.Cost.CostKind.kind g.met.N.Cost.CostKind.lawful (shown (g.N.Network.meaning c.args.net.now)) c.args.flow.now c.args.prices.now c.args.chosen c.args.labels.now c.requires.fitting c.requires.moderate c.requires.long c.requires.good c.requires.chosen c.requires.sought c.args.best c.requires.sighted c.in-Kilter.by next c.raise.new.prices c.raise.ensures.long c.raise.ensures.raised
+    let next = subst (NextIs g.N.Cost.CostKind.kind (shown (g.N.Network.meaning c.args.net.now)) c.args.flow.now c.args.prices.now c.args.chosen c.args.best) (c.ok_or.ensures.ok_part ∙ ap result_ok c.in_ok-by.was ∙ ap Some c.in-Kilter.is) c.next_rise.ensures in
+    kilter_done g.met.N.Cost.CostKind.lawful c.requires.searching c.requires.moderate c.requires.sought c.requires.sighted next c.raise.ensures.long c.raise.ensures.raised
 
 pub returns-in-Label : goal.returns-in-Label
 returns-in-Label g c =
-    let K = g.N.Cost.CostKind.kind in
-    let arcs = shown (g.N.Network.meaning c.args.net.now) in
-    let next = subst (NextIs K arcs c.args.flow.now c.args.prices.now c.args.chosen c.args.best) (c.ok_or.ensures.ok_part ∙ ap result_ok c.in_ok-by.was ∙ ap Some c.in-Label.is) c.next_rise.ensures in
-    let b = c.in-Label.b in
-    let qs = c.raise-in-Label.new.prices in
-    let ls = c.args.labels.now in
-    let same = c.raise-in-Label.ensures.long in
-    let raised = c.raise-in-Label.ensures.raised in
-    let few : length qs ≤ 256 = omega (arith, same, c.requires.few) in
-    let fitting = label_fitting g.N.Cost.CostKind.kind g.met.N.Cost.CostKind.lawful (shown (g.N.Network.meaning c.args.net.now)) c.args.flow.now c.args.prices.now c.args.chosen c.args.labels.now c.requires.fitting c.requires.moderate c.requires.long c.requires.good c.requires.chosen c.requires.sought c.args.best c.requires.sighted b next qs same raised in
-    let good = label_good g.N.Cost.CostKind.kind g.met.N.Cost.CostKind.lawful (shown (g.N.Network.meaning c.args.net.now)) c.args.flow.now c.args.prices.now c.args.chosen c.args.labels.now c.requires.fitting c.requires.moderate c.requires.long c.requires.good c.requires.chosen c.requires.sought c.args.best c.requires.sighted b next qs same raised in
-    let ripe = label_ripe g.N.Cost.CostKind.kind g.met.N.Cost.CostKind.lawful (shown (g.N.Network.meaning c.args.net.now)) c.args.flow.now c.args.prices.now c.args.chosen c.args.labels.now c.requires.fitting c.requires.moderate c.requires.long c.requires.good c.requires.chosen c.requires.sought c.args.best c.requires.sighted b next qs same raised in
-    let ms = c.link.new.labels in
-    let e = c.link.ensures in
-    label_done g.N.Cost.CostKind.kind g.met.N.Cost.CostKind.lawful (shown (g.N.Network.meaning c.args.net.now)) c.args.flow.now c.args.prices.now c.args.chosen c.args.labels.now c.requires.fitting c.requires.moderate c.requires.long c.requires.good c.requires.chosen c.requires.sought c.args.best c.requires.sighted b next qs same raised ms (link_good K arcs c.args.flow.now qs c.args.chosen.arc few ls good fitting b.over ripe c.arc-arc.result c.arc-arc.ensures.is ms e) (link_grown K arcs c.args.flow.now qs c.args.chosen.arc few ls good fitting b.over ripe c.arc-arc.result c.arc-arc.ensures.is ms e) (link_more K arcs c.args.flow.now qs c.args.chosen.arc few ls good fitting b.over ripe c.arc-arc.result c.arc-arc.ensures.is ms e)
+    let next = subst (NextIs g.N.Cost.CostKind.kind (shown (g.N.Network.meaning c.args.net.now)) c.args.flow.now c.args.prices.now c.args.chosen c.args.best) (c.ok_or.ensures.ok_part ∙ ap result_ok c.in_ok-by.was ∙ ap Some c.in-Label.is) c.next_rise.ensures in
+    label_done g.met.N.Cost.CostKind.lawful c.requires.searching c.requires.moderate c.requires.sought c.requires.sighted next _ c.raise-in-Label.ensures.long c.raise-in-Label.ensures.raised c.requires.few c.arc-arc.ensures.is c.link.new.labels c.link.ensures

@@ -1,11 +1,9 @@
 use Rattle.reach.specs.Rounds.{EndsWith}
 use Rattle.std.proofs.Common.{Err, ap, ◌≡◌, ℕ, ◌≤◌, length, sym, refl, ◌∙◌, subst, arith}
 use Rattle.networks.specs.Nets.{shown}
-use Rattle.flows.specs.Fits.{Fitting}
 use Rattle.labels.specs.Ways.{Chosen}
 use Rattle.search.specs.Going.{KilterAt}
-use Rattle.search.proofs.Taming.{eased_both}
-use Rattle.search.proofs.Starting.{good_begun, repriced_ready}
+use Rattle.search.proofs.Starting.{good_begun, fits_prices, searched}
 use Rattle.search.proofs.AtHand.{at_hand}
 use Rattle.search.proofs.Marking.{cut_marked}
 use Rattle.search.proofs.attempts.attempt.Goals as goal
@@ -15,7 +13,7 @@ returns-in_default g c = record {
   ready = c.tame.ensures.ready;
   eased = c.tame.ensures.eased;
   ends = (refl, c.in_default.ensures, refl);
-  spends = ((λ e. absurd (let z : ◌≡◌ {A = ℕ} 0 1 = cc in omega arith)), (λ e. absurd (let z : ◌≡◌ {A = ℕ} 0 1 = cc in omega arith)));
+  spends = ((λ e. absurd cc), (λ e. absurd cc));
 }
 
 pub begin-labels-requires : goal.begin-labels-requires
@@ -24,78 +22,53 @@ begin-labels-requires g c = let want = c.in-Some.ensures in (want.sources.0, ome
 pub reach-requires : goal.reach-requires
 reach-requires g c =
     let K = g.N.Cost.CostKind.kind in
-    let laws = g.met.N.Cost.CostKind.lawful in
-    let n = g.N.Network.meaning c.args.net.now in
-    let arcs = shown n in
-    let N = n.nodes in
-    let flow = c.args.flow.now in
-    let ps = c.args.prices.now in
+    let arcs = shown (g.N.Network.meaning c.args.net.now) in
     let qs = c.tame.new.prices in
     let ready = c.tame.ensures.ready in
     let step = c.in-Some.choice.step in
-    let source = c.in-Some.choice.source in
     let want = c.in-Some.ensures in
     let b = c.begin-labels.ensures in
     let few : length qs ≤ 256 = omega (arith, ready.few, ready.priced) in
     record {
-      fitting = subst (λ z. Fitting K z arcs) (sym ready.priced) ready.fitting;
+      searching = record {
+        fitting = fits_prices ready;
+        long = ready.long;
+        good = good_begun K arcs c.args.flow.now qs step.arc c.in-Some.choice.source c.begin-labels.result want.sources.0 (omega (arith, want.sources.1, ready.priced)) few b;
+        wanted = subst (Chosen K arcs c.args.flow.now qs step) (sym b.starts) want.chosen;
+      };
       few = few;
       tame = c.tame.ensures.tame;
-      long = ready.long;
       node = (want.node.0, omega (arith, want.node.1, ready.priced));
-      good = good_begun K arcs flow qs step.arc source c.begin-labels.result want.sources.0 (omega (arith, want.sources.1, ready.priced)) few b;
       one = b.one;
-      chosen = subst (Chosen K arcs flow qs step) (sym b.starts) want.chosen;
     }
 
 pub returns-then-not-may_lap : goal.returns-then-not-may_lap
 returns-then-not-may_lap g c =
     let K = g.N.Cost.CostKind.kind in
-    let laws = g.met.N.Cost.CostKind.lawful in
     let n = g.N.Network.meaning c.args.net.now in
-    let arcs = shown n in
-    let N = n.nodes in
     let flow = c.args.flow.now in
-    let ps = c.args.prices.now in
-    let qs = c.tame.new.prices in
-    let ready = c.tame.ensures.ready in
-    let step = c.in-Some.choice.step in
-    let source = c.in-Some.choice.source in
-    let want = c.in-Some.ensures in
     let rs = c.reach.new.prices in
-    let rep = c.reach.ensures.prices in
-    let eased = eased_both K arcs flow ps qs rs c.tame.ensures.eased rep.eased in
-    let after = repriced_ready K N arcs flow qs rs ready rep in
+    let now = searched K n.nodes (shown n) flow c.args.prices.now c.tame.new.prices rs c.tame.ensures.ready c.tame.ensures.eased c.reach.ensures.prices in
     record {
-      ready = after;
-      eased = eased;
-      ends = (refl, at_hand K laws arcs flow rs (subst (λ z. Fitting K z arcs) (sym after.priced) after.fitting) after.long after.small step c.reach.new.labels want.node.0 c.in-Ok.ensures.ends, refl);
-      spends = ((λ e. absurd (let z : ◌≡◌ {A = ℕ} 0 1 = cc in omega arith)), (λ _. c.if-not-may_lap.true));
+      ready = now.ready;
+      eased = now.eased;
+      ends = (refl, at_hand K g.met.N.Cost.CostKind.lawful (shown n) flow rs (fits_prices now.ready) now.ready.long now.ready.small c.in-Some.choice.step c.reach.new.labels c.in-Some.ensures.node.0 c.in-Ok.ensures.ends, refl);
+      spends = ((λ e. absurd cc), (λ _. c.if-not-may_lap.true));
     }
 
 pub returns-in-Err-Kilter : goal.returns-in-Err-Kilter
 returns-in-Err-Kilter g c =
     let K = g.N.Cost.CostKind.kind in
-    let laws = g.met.N.Cost.CostKind.lawful in
     let n = g.N.Network.meaning c.args.net.now in
-    let arcs = shown n in
-    let N = n.nodes in
     let flow = c.args.flow.now in
-    let ps = c.args.prices.now in
-    let qs = c.tame.new.prices in
-    let ready = c.tame.ensures.ready in
-    let step = c.in-Some.choice.step in
-    let source = c.in-Some.choice.source in
-    let want = c.in-Some.ensures in
     let rs = c.reach.new.prices in
-    let rep = c.reach.ensures.prices in
-    let eased = eased_both K arcs flow ps qs rs c.tame.ensures.eased rep.eased in
-    let after = repriced_ready K N arcs flow qs rs ready rep in
+    let now = searched K n.nodes (shown n) flow c.args.prices.now c.tame.new.prices rs c.tame.ensures.ready c.tame.ensures.eased c.reach.ensures.prices in
+    let kilter = subst (EndsWith K (shown n) flow rs c.in-Some.choice.step c.reach.new.labels) (c.in-Err-Kilter.is ∙ ap Err c.in-Err-Kilter.field-0-is) c.reach.ensures.ends in
     record {
-      ready = after;
-      eased = eased;
-      ends = (refl, subst (KilterAt K arcs flow rs) want.over (subst (EndsWith K arcs flow rs step c.reach.new.labels) (c.in-Err-Kilter.is ∙ ap Err c.in-Err-Kilter.field-0-is) c.reach.ensures.ends), refl);
-      spends = ((λ e. absurd (let z : ◌≡◌ {A = ℕ} 0 1 = cc in omega arith)), (λ e. absurd (let z : ◌≡◌ {A = ℕ} 0 1 = cc in omega arith)));
+      ready = now.ready;
+      eased = now.eased;
+      ends = (refl, subst (KilterAt K (shown n) flow rs) c.in-Some.ensures.over kilter, refl);
+      spends = ((λ e. absurd cc), (λ e. absurd cc));
     }
 
 pub mark-requires : goal.mark-requires
@@ -104,80 +77,43 @@ mark-requires g c = omega (arith, c.requires.marks, c.requires.ready.few)
 pub returns-in-Err-Cut : goal.returns-in-Err-Cut
 returns-in-Err-Cut g c =
     let K = g.N.Cost.CostKind.kind in
-    let laws = g.met.N.Cost.CostKind.lawful in
     let n = g.N.Network.meaning c.args.net.now in
-    let arcs = shown n in
-    let N = n.nodes in
     let flow = c.args.flow.now in
-    let ps = c.args.prices.now in
-    let qs = c.tame.new.prices in
-    let ready = c.tame.ensures.ready in
     let step = c.in-Some.choice.step in
-    let source = c.in-Some.choice.source in
-    let want = c.in-Some.ensures in
     let rs = c.reach.new.prices in
-    let rep = c.reach.ensures.prices in
-    let eased = eased_both K arcs flow ps qs rs c.tame.ensures.eased rep.eased in
-    let after = repriced_ready K N arcs flow qs rs ready rep in
+    let now = searched K n.nodes (shown n) flow c.args.prices.now c.tame.new.prices rs c.tame.ensures.ready c.tame.ensures.eased c.reach.ensures.prices in
+    let cut = subst (EndsWith K (shown n) flow rs step c.reach.new.labels) (c.in-Err-Cut.is ∙ ap Err c.in-Err-Cut.field-0-is) c.reach.ensures.ends in
     record {
-      ready = after;
-      eased = eased;
-      ends = (refl, cut_marked K N arcs flow after.fitting after.long c.reach.new.labels c.mark.new.marks (c.mark.auto.marks ∙ c.requires.marks) c.mark.ensures step want.chosen.moving.0 (subst (EndsWith K arcs flow rs step c.reach.new.labels) (c.in-Err-Cut.is ∙ ap Err c.in-Err-Cut.field-0-is) c.reach.ensures.ends));
-      spends = ((λ e. absurd (let z : ◌≡◌ {A = ℕ} 0 1 = cc in omega arith)), (λ e. absurd (let z : ◌≡◌ {A = ℕ} 0 1 = cc in omega arith)));
+      ready = now.ready;
+      eased = now.eased;
+      ends = (refl, cut_marked K n.nodes (shown n) flow now.ready.fitting now.ready.long c.reach.new.labels c.mark.new.marks (c.mark.auto.marks ∙ c.requires.marks) c.mark.ensures step c.in-Some.ensures.chosen.moving.0 cut);
+      spends = ((λ e. absurd cc), (λ e. absurd cc));
     }
 
 pub lap-requires : goal.lap-requires
 lap-requires g c =
-    let K = g.N.Cost.CostKind.kind in
-    let laws = g.met.N.Cost.CostKind.lawful in
     let n = g.N.Network.meaning c.args.net.now in
-    let arcs = shown n in
-    let N = n.nodes in
-    let flow = c.args.flow.now in
-    let ps = c.args.prices.now in
-    let qs = c.tame.new.prices in
-    let ready = c.tame.ensures.ready in
-    let step = c.in-Some.choice.step in
-    let source = c.in-Some.choice.source in
-    let want = c.in-Some.ensures in
-    let rs = c.reach.new.prices in
-    let rep = c.reach.ensures.prices in
-    let eased = eased_both K arcs flow ps qs rs c.tame.ensures.eased rep.eased in
-    let after = repriced_ready K N arcs flow qs rs ready rep in
+    let now = searched g.N.Cost.CostKind.kind n.nodes (shown n) c.args.flow.now c.args.prices.now c.tame.new.prices c.reach.new.prices c.tame.ensures.ready c.tame.ensures.eased c.reach.ensures.prices in
     let found = c.in-Ok.ensures.ends in
     record {
-      fitting = subst (λ z. Fitting K z arcs) (sym after.priced) after.fitting;
-      moderate = λ k h. omega (arith, after.bounded k h);
-      long = after.long;
-      small = after.small;
+      fitting = fits_prices now.ready;
+      moderate = λ k h. omega (arith, now.ready.bounded k h);
+      long = now.ready.long;
+      small = now.ready.small;
       good = found.good;
-      node = (want.node.0, omega (arith, want.node.1, ready.few));
+      node = (c.in-Some.ensures.node.0, omega (arith, c.in-Some.ensures.node.1, now.ready.few));
       reached = found.reached;
       chosen = found.wanted;
     }
 
 pub returns-else-not-may_lap : goal.returns-else-not-may_lap
 returns-else-not-may_lap g c =
-    let K = g.N.Cost.CostKind.kind in
-    let laws = g.met.N.Cost.CostKind.lawful in
     let n = g.N.Network.meaning c.args.net.now in
-    let arcs = shown n in
-    let N = n.nodes in
-    let flow = c.args.flow.now in
-    let ps = c.args.prices.now in
-    let qs = c.tame.new.prices in
-    let ready = c.tame.ensures.ready in
-    let step = c.in-Some.choice.step in
-    let source = c.in-Some.choice.source in
-    let want = c.in-Some.ensures in
-    let rs = c.reach.new.prices in
-    let rep = c.reach.ensures.prices in
-    let eased = eased_both K arcs flow ps qs rs c.tame.ensures.eased rep.eased in
-    let after = repriced_ready K N arcs flow qs rs ready rep in
+    let now = searched g.N.Cost.CostKind.kind n.nodes (shown n) c.args.flow.now c.args.prices.now c.tame.new.prices c.reach.new.prices c.tame.ensures.ready c.tame.ensures.eased c.reach.ensures.prices in
     let r = c.lap.ensures in
     record {
-      ready = record { fitting = after.fitting; few = after.few; priced = after.priced; bounded = after.bounded; long = r.long ∙ after.long; small = r.small };
-      eased = eased;
+      ready = record { fitting = now.ready.fitting; few = now.ready.few; priced = now.ready.priced; bounded = now.ready.bounded; long = r.long ∙ now.ready.long; small = r.small };
+      eased = now.eased;
       ends = (r, refl);
-      spends = ((λ _. c.if-not-may_lap.false), (λ e. absurd (let z : ◌≡◌ {A = ℕ} 0 1 = cc in omega arith)));
+      spends = ((λ _. c.if-not-may_lap.false), (λ e. absurd cc));
     }
