@@ -1,4 +1,5 @@
 pub mod Writes
+pub mod Largest
 pub mod Choosing
 pub mod Taming
 pub mod Starting

@@ -1,5 +1,5 @@
 -- How settle reads a price, and what it owes for each answer and refusal.
-use Rattle.std.specs.Prelude.{◌≡◌, ℕ, cond, List, length, take, ℤ, Ok, Err, Some, Option, Result, nat_le}
+use Rattle.std.specs.Prelude.{◌≡◌, ℕ, Bool, true, false, cond, List, length, take, ℤ, Ok, Err, Some, Option, Result, nat_le}
 use Rattle.std.specs.Prelude as prelude
 use Rattle.costs.specs.Kinds.{Kind}
 use Rattle.networks.specs.declared.stops.Stop.{Stop}
@@ -27,6 +27,12 @@ abbrev pub end_of : {C : Type 0} → Answer C → Result ℕ Halt
 end_of (Least total laps) = Ok laps
 end_of (Paused laps) = Err (halt.Paused laps)
 end_of None = Err halt.Cut
+
+-- the answer is that there is no flow
+abbrev pub is_none_answer : {C : Type 0} → Answer C → Bool
+is_none_answer (Least total laps) = false
+is_none_answer (Paused laps) = false
+is_none_answer None = true
 
 -- where the answer has a total, it is c
 abbrev pub HasTotal : {C : Type 0} → Answer C → C → Type 0

@@ -80,8 +80,8 @@ fn mark(marks: &mut [u8], labels: &Labels)
     requires { length marks.old ≤ 256 }
     ensures { (k : ℕ) → k < length marks.new → slice_index marks.new k ≡ (if nat_lt 0 (slice_index labels.now.places k) then 1 else 0) }
 {
-    for (m, place) in marks.iter_mut().zip(&labels.places) {
-        *m = mark_of(*place);
+    for (i, m) in marks.iter_mut().enumerate() {
+        *m = mark_of(labels.places[i]);
     }
 }
 

@@ -9,7 +9,7 @@ ghost use Rattle.flows.specs.Flows.{total as total_of};
 ghost use Rattle.flows.specs.Stops.{first_stop as first_stop_of};
 ghost use Rattle.costs.specs.Kinds.{sums};
 ghost use Rattle.search.specs.Going.{Going, Ended};
-ghost use Rattle.search.specs.Settling.{read_price_as, end_of, HasTotal, tables, Settled, Worded};
+ghost use Rattle.search.specs.Settling.{read_price_as, end_of, is_none_answer, HasTotal, tables, Settled, Worded};
 
 use crate::guard::{Restore, save};
 use crate::seek::{Halt, seek};
@@ -24,6 +24,14 @@ pub enum Answer<C> {
     Least { total: C, laps: u32 },
     Paused { laps: u32 },
     None,
+}
+
+impl<C> Answer<C> {
+    fn is_none(&self) -> bool
+        ensures { result ≡ is_none_answer self.now }
+    {
+        matches!(self, Answer::None)
+    }
 }
 
 // The largest size of an arc's cost.
@@ -99,7 +107,7 @@ pub fn settle<N: Network>(
     let mut guard = Restore { flow, saved };
     let answer = search(net, guard.flow, prices, marks, budget);
     tidy(net, prices);
-    if !matches!(answer, Answer::None) {
+    if !answer.is_none() {
         guard.saved = None;
     }
     Ok(answer)
