@@ -14,6 +14,10 @@ near a along = cond along a.from a.to
 abbrev pub far : {C : Type 0} → Arc C → Bool → ℕ
 far a along = cond along a.to a.from
 
+-- the step over the arc at place i
+abbrev pub step_over : {C : Type 0} → ℕ → Arc C → Bool → Step
+step_over i a along = record { node = near a along; arc = i; along = along }
+
 -- the step leads from its node to node n
 abbrev pub Leads : {C : Type 0} → List (Arc C) → Step → ℕ → Type 0
 Leads {C} arcs s n = (a : Arc C) × IsAt arcs s.arc a × (near a s.along ≡ s.node) × (far a s.along ≡ n)

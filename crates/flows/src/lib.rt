@@ -28,7 +28,7 @@ pub use figures::{Figure, Verdict, plain_figures, two_tier_figures};
 pub use kilter::amiss;
 pub use outside::distance;
 pub use pricing::{opposite, price_at, raise, reduced, sum};
-pub use steps::Step;
+pub use steps::{Step, far_end};
 pub use stops::{first_stop, open_stop, take_up_stop};
 pub use theorems::{
     cut_shows_none, kept_signs_ease, kilter_is_least, kilter_sum_is_limited, kilter_sum_tells,

@@ -91,28 +91,32 @@ pub fn first_stop<N: Network>(
     net: &N,
     flow: &[i32],
     needs: &[i32],
-    prices: usize,
-    marks: usize,
+    prices: &[N::Cost],
+    marks: &[u8],
 ) -> Result<(), Stop>
-    ensures { refusal result ≡ first_stop_of N.Cost.CostKind.kind.size (N.meaning net.now) flow.now needs.now prices marks }
+    ensures { refusal result ≡ first_stop_of N.Cost.CostKind.kind.size (N.meaning net.now) flow.now needs.now (length prices.now) (length marks.now) }
 {
-    open_stop(net, flow, needs.len(), prices, marks)?;
+    open_stop(net, flow, needs, prices, marks)?;
     needs_fault(net, flow, needs)
 }
 
-// The first stop where a plan is opened at this flow; of its other tables the lengths.
+// The first stop where a plan is opened at this flow; of its other tables the lengths count.
 pub fn open_stop<N: Network>(
     net: &N,
     flow: &[i32],
-    needs: usize,
-    prices: usize,
-    marks: usize,
+    needs: &[i32],
+    prices: &[N::Cost],
+    marks: &[u8],
 ) -> Result<(), Stop>
-    ensures { refusal result ≡ open_stop_of N.Cost.CostKind.kind.size (N.meaning net.now) flow.now needs prices marks }
+    ensures { refusal result ≡ open_stop_of N.Cost.CostKind.kind.size (N.meaning net.now) flow.now (length needs.now) (length prices.now) (length marks.now) }
 {
     counts_fault(net)?;
     let nodes = net.nodes();
-    if flow.len() != net.arcs() || needs != nodes || prices != nodes || marks != nodes {
+    if flow.len() != net.arcs()
+        || needs.len() != nodes
+        || prices.len() != nodes
+        || marks.len() != nodes
+    {
         return Err(Stop::Lengths);
     }
     arcs_fault(net, flow)
@@ -124,10 +128,10 @@ pub fn take_up_stop<N: Network>(
     own: usize,
     offered: &[i32],
     needs: &[i32],
-    prices: usize,
-    marks: usize,
+    prices: &[N::Cost],
+    marks: &[u8],
 ) -> Result<(), Stop>
-    ensures { refusal result ≡ take_up_stop_of N.Cost.CostKind.kind.size (N.meaning net.now) own offered.now needs.now prices marks }
+    ensures { refusal result ≡ take_up_stop_of N.Cost.CostKind.kind.size (N.meaning net.now) own offered.now needs.now (length prices.now) (length marks.now) }
 {
     counts_fault(net)?;
     if own != net.arcs() {

@@ -4,17 +4,16 @@ use Rattle.std.proofs.lemmas.Bool.{eqb-true, true≢false}
 use Rattle.costs.specs.Kinds.{Kind}
 use Rattle.networks.specs.Nets.{IsAt}
 use Rattle.networks.specs.declared.network.Arc.{Arc}
-use Rattle.flows.specs.declared.steps.Step.{Step}
 use Rattle.labels.specs.declared.labelling.Entry.{Entry}
 use Rattle.labels.specs.declared.labelling.Labels.{Labels}
 use Rattle.flows.specs.Kilter.{reduced}
-use Rattle.flows.specs.Laps.{near, far}
+use Rattle.flows.specs.Laps.{near, far, step_over}
 use Rattle.flows.specs.Views.{Sees}
 use Rattle.flows.specs.declared.views.Seen.{Seen}
 use Rattle.flows.proofs.ArcSums.{same_at}
 use Rattle.flows.specs.Fits.{Fit}
 use Rattle.labels.specs.Moves.{may, may_at}
-use Rattle.labels.specs.Good.{count, node_at, place_of, Open, Good, Grown, outward_at, pushed}
+use Rattle.labels.specs.Good.{count, node_at, place_of, Open, Good, Grown, outward_at, linked_by, pushed}
 use Rattle.labels.proofs.More.{counts, room, whole_more, grown_more, linked_more}
 
 -- the way outward sets out from the node, and leads to one that is not labelled
@@ -54,11 +53,8 @@ grown_both ls ms ns p q = record {
 module _ {C : Type 0} (K : Kind C) (arcs : List (Arc C)) (flow : List ℤ) (prices : List C) (chosen : ℕ) where
   module _ (few : length prices ≤ 256) (ls : Labels) (good : Good K arcs flow prices chosen ls) (at i : ℕ) (place : at < count ls) (other : i ≡ chosen → ⊥) (a : Arc C) (is : IsAt arcs i a) (fit : Fit K (length prices) a)
       (along : Bool) (here : near a along ≡ node_at ls at) (fresh : place_of ls (far a along) ≡ 0) (moves : may K prices a along (get_or flow i (pos 0)) ≡ true) where
-    step : Step
-    step = record { node = node_at ls at; arc = i; along = along }
-
     abbrev pub new : Entry
-    new = record { node = far a along; parent = at; step = record { node = node_at ls at; arc = i; along = along } }
+    new = linked_by a (step_over i a along) at
 
     ends : (b : Bool) → (1 ≤ far a b) × (far a b ≤ length prices)
     ends true = (fit.ends.2, fit.ends.3)
@@ -78,7 +74,7 @@ module _ {C : Type 0} (K : Kind C) (arcs : List (Arc C)) (flow : List ℤ) (pric
 
     opens : Open K arcs flow prices chosen new.step (far a along)
     opens = record {
-      leads = (a, is, here, refl);
+      leads = (a, is, refl, refl);
       other = other;
       may_move = λ b bt. subst (λ z. may K prices z along (get_or flow i (pos 0)) ≡ true) (same_at arcs i a b is bt) (moves);
     }
@@ -87,5 +83,5 @@ module _ {C : Type 0} (K : Kind C) (arcs : List (Arc C)) (flow : List ℤ) (pric
     new_good = record {
       whole = whole_more (length prices) few ls good.whole new (ends along).0 (ends along).1 (fresh);
       some = omega (arith, counts (length prices) few ls good.whole new (ends along).0 (ends along).1 fresh);
-      linked = linked_more (length prices) few ls good.whole new (ends along).0 (ends along).1 (fresh) K arcs flow prices chosen good.linked place refl opens;
+      linked = linked_more (length prices) few ls good.whole new (ends along).0 (ends along).1 (fresh) K arcs flow prices chosen good.linked place here opens;
     }

@@ -1,5 +1,6 @@
 -- A labelling with one node more.
-use Rattle.std.proofs.Common.{◌≡◌, ℕ, zero, suc, ◌+◌, ◌-◌, ◌<◌, ◌≤◌, Bool, true, false, cond, eqb, List, [], ◌∷◌, length, get_or, set, ℤ, sym, ap, ◌∙◌, subst, ⊎_elim, arith, length-set, length-append}
+use Rattle.std.proofs.Common.{◌≡◌, ℕ, zero, suc, ◌+◌, ◌-◌, ◌<◌, ◌≤◌, Bool, true, false, cond, eqb, nat_lt, Some, None, refl, List, [], ◌∷◌, length, get_or, set, ℤ, sym, ap, ◌∙◌, subst, ⊎_elim, arith, length-set, length-append}
+use Rattle.std.specs.Option.{is_some}
 use Rattle.std.proofs.lemmas.Bool.{cases_eq, ne_eqb}
 use Rattle.std.proofs.lemmas.List.{get_or-set_same, get_or-set_other, get_or_append_left}
 use Rattle.std.proofs.Math.Seq.{get_or-append_seam}
@@ -7,7 +8,15 @@ use Rattle.costs.specs.Kinds.{Kind}
 use Rattle.networks.specs.declared.network.Arc.{Arc}
 use Rattle.labels.specs.declared.labelling.Entry.{Entry}
 use Rattle.labels.specs.declared.labelling.Labels.{Labels}
-use Rattle.labels.specs.Good.{count, no_entry, entry_at, node_at, place_of, used, Open, Linked, Whole, Grown, pushed}
+use Rattle.labels.specs.Good.{count, no_entry, entry_at, node_at, place_at, place_of, used, Open, Linked, Whole, Grown, pushed}
+
+-- a node has a place where it is labelled
+pub is_placed : (ls : Labels) (n : ℕ) → is_some (place_at ls n) ≡ nat_lt 0 (place_of ls n)
+is_placed ls n = go (nat_lt 0 (place_of ls n))
+  where
+    go : (b : Bool) → is_some (cond b (Some (place_of ls n - 1)) None) ≡ b
+    go true = refl
+    go false = refl
 
 one_at_most : (b : Bool) (n m : ℕ) → n ≤ m → cond b 0 1 + n ≤ suc m
 one_at_most true n m h = omega arith

@@ -1,14 +1,16 @@
 -- The way back by the labels is a lap with the chosen arc.
-use Rattle.std.proofs.Common.{◌≡◌, ℕ, zero, suc, ◌+◌, ◌<◌, ◌≤◌, Bool, true, false, cond, List, [], ◌∷◌, map, length, get_or, set, ℤ, pos, negsuc, ◌+ℤ◌, ◌-ℤ◌, neg_ℤ, nat_abs, ◌≤ℤ◌, ◌<ℤ◌, sym, refl, ap, ◌∙◌, subst, subst₂, ⊎_elim, arith, length-set}
+use Rattle.std.proofs.Common.{◌≡◌, ℕ, zero, suc, ◌+◌, ◌<◌, ◌≤◌, Bool, true, false, cond, List, [], ◌∷◌, map, length, get_or, set, ℤ, pos, negsuc, ◌+ℤ◌, ◌-◌, ◌-ℤ◌, neg_ℤ, nat_abs, nat_lt, Some, ◌≤ℤ◌, ◌<ℤ◌, sym, refl, ap, ◌∙◌, subst, subst₂, ⊎_elim, arith, length-set}
 use borrow.Author.Differences.{ints}
 use Rattle.std.specs.List.{AllByRecursion}
-use Rattle.std.proofs.lemmas.List.{get_or-set_same, get_or-set_other}
-use Rattle.std.proofs.lemmas.Bool.{cases_eq}
+use Rattle.std.proofs.lemmas.List.{get_or-set_same, get_or-set_other, get_or_past}
+use Rattle.std.proofs.lemmas.Bool.{cases_eq, cases_lt, ltb-true}
+use Rattle.std.proofs.lemmas.Option.{cond_some}
 use Rattle.costs.specs.Kinds.{Kind, Laws}
 use Rattle.flows.specs.Kilter.{reduced}
 use Rattle.networks.specs.Nets.{IsAt}
 use Rattle.flows.specs.Fits.{Fit, Fitting, Small}
-use Rattle.flows.specs.Laps.{Leads, first, Chain, Apart, moved, sent}
+use Rattle.flows.specs.Flows.{Ends}
+use Rattle.flows.specs.Laps.{Leads, near, first, Chain, Apart, moved, sent}
 use Rattle.networks.specs.declared.network.Arc.{Arc}
 use Rattle.flows.specs.declared.steps.Step.{Step}
 use Rattle.flows.proofs.Chains.{lap_apart}
@@ -16,7 +18,7 @@ use Rattle.flows.proofs.Lapping.{length_sent}
 use Rattle.flows.proofs.Rooms.{Room, HasRoom, roomy_from_start, lap_better, arc_falls}
 use Rattle.labels.specs.declared.labelling.Labels.{Labels}
 use Rattle.labels.specs.Moves.{limit_at, room_at}
-use Rattle.labels.specs.Good.{count, node_at, place_of, Good}
+use Rattle.labels.specs.Good.{count, node_at, place_of, place_at, Labelled, Whole, Good}
 use Rattle.labels.specs.Ways.{Way, Moving, FitsIn, Steady, Chosen, GoneRound}
 
 -- what has room: at most the limit, which is within the bounds
@@ -62,6 +64,30 @@ arc_there : {X : Type 0} (xs : List X) (j : ℕ) → j < length xs → (a : X) �
 arc_there [] j h = absurd (omega arith)
 arc_there (y ∷ ys) zero h = (y, (h, refl))
 arc_there (y ∷ ys) (suc j) h = let r = arc_there ys j (omega arith) in (r.0, (h, r.1.1))
+
+-- the chosen step sets out from a node
+pub sought_there : {C : Type 0} (K : Kind C) (N : ℕ) (arcs : List (Arc C)) (flow : List ℤ) (prices : List C) (s : Step) (n : ℕ) → Fitting K N arcs → Chosen K arcs flow prices s n → (1 ≤ s.node) × (s.node ≤ N)
+sought_there K N arcs flow prices s n fitting ch =
+    let fit = fitting s.arc ch.leads.0 ch.leads.1 in
+    let ends : (b : Bool) → (1 ≤ near ch.leads.0 b) × (near ch.leads.0 b ≤ N) = λ b. go b fit.ends in
+    subst (λ z. (1 ≤ z) × (z ≤ N)) ch.leads.2 (ends s.along)
+  where
+    go : (b : Bool) → Ends N ch.leads.0 → (1 ≤ near ch.leads.0 b) × (near ch.leads.0 b ≤ N)
+    go true e = (e.0, e.1)
+    go false e = (e.2, e.3)
+
+-- what is labelled is within the table
+pub labelled_within : (N : ℕ) (ls : Labels) (n : ℕ) → Whole N ls → Labelled ls n → n ≤ 256
+labelled_within N ls n w h = ⊎_elim (λ (q : n - 1 < length ls.places). omega (arith, w.places_long)) (λ (q : length ls.places ≤ n - 1). absurd (let z = get_or_past ls.places (n - 1) 0 q in omega (arith, h))) (cases_lt (n - 1) (length ls.places))
+
+-- the place that it has
+pub sought_place : {C : Type 0} (K : Kind C) (arcs : List (Arc C)) (flow : List ℤ) (prices : List C) (s : Step) (ls : Labels) (k : ℕ) → Fitting K (length prices) arcs → Good K arcs flow prices s.arc ls → Chosen K arcs flow prices s (node_at ls 0) →
+    place_at ls s.node ≡ Some k → (k < count ls) × (node_at ls k ≡ s.node)
+sought_place K arcs flow prices s ls k fitting good ch e =
+    let p = cond_some (nat_lt 0 (place_of ls s.node)) (place_of ls s.node - 1) k e in
+    let labelled = ltb-true 0 (place_of ls s.node) p.0 in
+    let there = good.whole.holds s.node (sought_there K (length prices) arcs flow prices s (node_at ls 0) fitting ch).0 labelled in
+    (omega (arith, there.0, labelled, p.1), ap (node_at ls) (sym p.1) ∙ there.1)
 
 set_small : (fs : List ℤ) (i : ℕ) (y : ℤ) → i < length fs → Small fs → nat_abs y ≤ 1000000 → Small (set fs i y)
 set_small fs i y h s k j = ⊎_elim

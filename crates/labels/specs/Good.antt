@@ -1,8 +1,8 @@
 -- Labellings.
-use Rattle.std.specs.Prelude.{◌≡◌, ℕ, ◌+◌, ◌-◌, ◌<◌, ◌≤◌, Bool, true, false, cond, List, [], ◌∷◌, ◌++◌, length, ℤ, pos, Some, None, Option, ◌==◌, slice_index, slice_index_or, slice_set}
+use Rattle.std.specs.Prelude.{◌≡◌, ℕ, ◌+◌, ◌-◌, ◌<◌, ◌≤◌, Bool, true, false, cond, List, [], ◌∷◌, ◌++◌, length, ℤ, pos, Some, None, Option, ◌==◌, nat_lt, slice_index, slice_index_or, slice_set}
 use Rattle.costs.specs.Kinds.{Kind}
 use Rattle.networks.specs.Nets.{IsAt}
-use Rattle.flows.specs.Laps.{Leads}
+use Rattle.flows.specs.Laps.{Leads, far}
 use Rattle.networks.specs.declared.network.Arc.{Arc}
 use Rattle.flows.specs.declared.steps.Step.{Step}
 use Rattle.labels.specs.declared.labelling.Entry.{Entry}
@@ -16,7 +16,7 @@ no_entry = record { node = 0; parent = 0; step = record { node = 0; arc = 0; alo
 abbrev pub count : Labels → ℕ
 count ls = length ls.entries.items
 
--- the k-th labelled node, and the place of a node: from 1 on, or 0
+-- the k-th labelled node, and the place of a node: from 1 on, or 0; and counted from 0, if it has one
 abbrev pub entry_at : Labels → ℕ → Entry
 entry_at ls k = slice_index_or ls.entries.items k no_entry
 
@@ -25,6 +25,9 @@ node_at ls k = (entry_at ls k).node
 
 abbrev pub place_of : Labels → ℕ → ℕ
 place_of ls n = slice_index ls.places (n - 1)
+
+abbrev pub place_at : Labels → ℕ → Option ℕ
+place_at ls n = cond (nat_lt 0 (place_of ls n)) (Some (place_of ls n - 1)) None
 
 abbrev pub Labelled : Labels → ℕ → Type 0
 Labelled ls n = 0 < place_of ls n
@@ -73,6 +76,10 @@ outward_at a n ls = cond (a.from == n) (cond (place_of ls a.to == 0) (Some true)
 -- one node more is labelled
 abbrev pub pushed : Labels → Entry → Labels
 pushed ls e = record { places = slice_set ls.places (e.node - 1) (count ls + 1); entries = record { items = ls.entries.items ++ e ∷ [] } }
+
+-- the node that the step leads to, labelled from the one at place k
+abbrev pub linked_by : {C : Type 0} → Arc C → Step → ℕ → Entry
+linked_by a s k = record { node = far a s.along; parent = k; step = s }
 
 -- only the source is labelled
 pub record Begun (source : ℕ) (ls : Labels) : Type 0 where

@@ -1,6 +1,6 @@
 // What a search for a lap goes by: a view, and the step that the lap is to begin with.
 
-ghost use Rattle.std.specs.Prelude.{ℕ, ◌≤◌, length};
+ghost use Rattle.std.specs.Prelude.{◌≤◌, length};
 
 use flows::{Step, View};
 use networks::Network;
@@ -11,4 +11,5 @@ pub struct Aim<'a, N: Network> {
     pub view: View<'a, N>,
     pub chosen: Step,
     ghost few: { length view.prices.now ≤ 256 },
+    ghost sought: { (1 ≤ chosen.node) × (chosen.node ≤ length view.prices.now) },
 }

@@ -3,13 +3,14 @@
 ghost use Rattle.std.specs.Prelude.{◌≡◌, ℕ, ◌<◌, ◌≤◌, length, nat_lt};
 ghost use Rattle.networks.specs.Nets.{shown, IsAt};
 ghost use Rattle.flows.specs.Flows.{Ends};
-ghost use Rattle.labels.specs.Good.{Begun, Good, Grown, count, entry_at, place_of, pushed, outward_at};
+ghost use Rattle.flows.specs.Laps.{far};
+ghost use Rattle.labels.specs.Good.{Begun, Good, Grown, count, entry_at, place_at, place_of, pushed, linked_by, outward_at};
 
 use crate::Aim;
-use crate::moves::{far_end, may};
+use crate::moves::may;
 use arrayvec::ArrayVec;
 use costs::CostKind;
-use flows::{Step, arcs_of};
+use flows::{Step, arcs_of, far_end};
 use networks::{Arc, Network};
 
 // A labelled node: the place of the node it was labelled from, and the step that leads here from there.
@@ -44,12 +45,12 @@ impl Labels {
         labels
     }
 
-    // The place of a node among the labelled, counted from 1; 0 where it is not labelled.
-    pub fn place(&self, node: usize) -> usize
+    // The place of a node among the labelled, counted from 0; none where it is not labelled.
+    pub fn place(&self, node: usize) -> Option<usize>
         requires { (1 ≤ node) × (node ≤ 256) }
-        ensures { result ≡ place_of self.now node }
+        ensures { result ≡ place_at self.now node }
     {
-        self.places[node - 1]
+        self.places[node - 1].checked_sub(1)
     }
 
     // The node at a place, counted from 0.
@@ -69,6 +70,19 @@ impl Labels {
         self.places[entry.node - 1] = self.entries.len() + 1;
         self.entries.push(entry);
     }
+
+    // Labels what the step over an arc leads to, from the node at a place.
+    pub fn link<C: CostKind>(&mut self, arc: Arc<C>, step: Step, parent: usize)
+        requires room { count self.old < 256 }
+        requires node { (1 ≤ far arc step.along) × (far arc step.along ≤ 256) }
+        ensures { self.new ≡ pushed self.old (linked_by arc step parent) }
+    {
+        self.push(Entry {
+            node: far_end(arc, step.along),
+            parent,
+            step,
+        });
+    }
 }
 
 // The way over the arc from the node to one that is not labelled.
@@ -76,9 +90,9 @@ fn outward<C: CostKind>(arc: Arc<C>, node: usize, labels: &Labels) -> Option<boo
     requires { Ends 256 arc }
     ensures { result ≡ outward_at arc node labels.now }
 {
-    if arc.from == node && labels.place(arc.to) == 0 {
+    if arc.from == node && labels.place(arc.to).is_none() {
         Some(true)
-    } else if arc.from != node && arc.to == node && labels.place(arc.from) == 0 {
+    } else if arc.from != node && arc.to == node && labels.place(arc.from).is_none() {
         Some(false)
     } else {
         None
@@ -101,40 +115,30 @@ fn extend<N: Network>(aim: &Aim<N>, i: usize, arc: Arc<N::Cost>, at: usize, labe
         return;
     };
     if may(aim.view.see(i, arc), along) {
-        labels.push(Entry {
-            node: far_end(arc, along),
-            parent: at,
-            step: Step {
-                node,
-                arc: i,
-                along,
-            },
-        });
+        labels.link(arc, Step::over(i, arc, along), at);
     }
 }
 
 // Labels what one arc leads to from the node at a place, arc after arc, until the sought node is labelled; says whether it is.
 fn spread<N: Network>(aim: &Aim<N>, at: usize, labels: &mut Labels) -> bool
     requires good { Good N.Cost.CostKind.kind (shown (N.meaning aim.now.view.net.now)) aim.now.view.flow.now aim.now.view.prices.now aim.now.chosen.arc labels.old }
-    requires node { (1 ≤ aim.now.chosen.node) × (aim.now.chosen.node ≤ 256) }
     requires place { at < count labels.old }
     ensures good { Good N.Cost.CostKind.kind (shown (N.meaning aim.now.view.net.now)) aim.now.view.flow.now aim.now.view.prices.now aim.now.chosen.arc labels.new }
     ensures grown { Grown labels.old labels.new }
     ensures found { result ≡ nat_lt 0 (place_of labels.new aim.now.chosen.node) }
 {
     for (i, arc) in arcs_of(aim.view.net).enumerate() {
-        if labels.place(aim.chosen.node) > 0 {
+        if labels.place(aim.chosen.node).is_some() {
             return true;
         }
         extend(aim, i, arc, at, labels);
     }
-    labels.place(aim.chosen.node) > 0
+    labels.place(aim.chosen.node).is_some()
 }
 
 // Labels what can be reached from the nodes labelled from a place on, but not over the chosen arc, until the node that its step sets out from is labelled.
 pub fn label<N: Network>(aim: &Aim<N>, start: usize, labels: &mut Labels) -> bool
     requires good { Good N.Cost.CostKind.kind (shown (N.meaning aim.now.view.net.now)) aim.now.view.flow.now aim.now.view.prices.now aim.now.chosen.arc labels.old }
-    requires node { (1 ≤ aim.now.chosen.node) × (aim.now.chosen.node ≤ length aim.now.view.prices.now) }
     ensures good { Good N.Cost.CostKind.kind (shown (N.meaning aim.now.view.net.now)) aim.now.view.flow.now aim.now.view.prices.now aim.now.chosen.arc labels.new }
     ensures grown { Grown labels.old labels.new }
     ensures found { result ≡ nat_lt 0 (place_of labels.new aim.now.chosen.node) }
@@ -147,5 +151,5 @@ pub fn label<N: Network>(aim: &Aim<N>, start: usize, labels: &mut Labels) -> boo
         }
         at += 1;
     }
-    labels.place(aim.chosen.node) > 0
+    labels.place(aim.chosen.node).is_some()
 }

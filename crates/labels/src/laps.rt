@@ -94,12 +94,11 @@ pub fn lap<N: Network>(net: &N, flow: &mut [i32], prices: &[N::Cost], chosen: St
     requires long { length flow.old ≡ length (shown (N.meaning net.now)) }
     requires small { Small flow.old }
     requires good { Good N.Cost.CostKind.kind (shown (N.meaning net.now)) flow.old prices.now chosen.arc labels.now }
-    requires node { (1 ≤ chosen.node) × (chosen.node ≤ 256) }
     requires reached { Labelled labels.now chosen.node }
     requires chosen { Chosen N.Cost.CostKind.kind (shown (N.meaning net.now)) flow.old prices.now chosen (node_at labels.now 0) }
     ensures { GoneRound N.Cost.CostKind.kind (shown (N.meaning net.now)) prices.now flow.old flow.new }
 {
-    let steps = trace(labels, labels.place(chosen.node) - 1, chosen);
+    let steps = trace(labels, labels.place(chosen.node).unwrap(), chosen);
     let amount = least_room(&View { net, flow, prices }, steps.as_slice());
     send(flow, steps.as_slice(), amount);
 }

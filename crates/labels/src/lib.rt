@@ -11,6 +11,7 @@ mod laps;
 mod moves;
 
 pub use aims::Aim;
+pub use flows::far_end;
 pub use labelling::{Entry, Labels, label};
 pub use laps::lap;
-pub use moves::{far_end, may};
+pub use moves::may;

@@ -1,12 +1,10 @@
 // Which way an arc may move, and how far.
 
 ghost use Rattle.std.specs.Prelude.{◌≡◌};
-ghost use Rattle.flows.specs.Laps.{far};
 ghost use Rattle.labels.specs.Moves.{limit_at, may_at};
 
 use costs::CostKind;
 use flows::Seen;
-use networks::Arc;
 
 // How far an arc is moved at most, along or against.
 pub fn limit<C: CostKind>(seen: Seen<C>, along: bool) -> i32
@@ -35,11 +33,4 @@ pub fn may<C: CostKind>(seen: Seen<C>, along: bool) -> bool
     } else {
         limit(seen, false) < seen.flow
     }
-}
-
-// Where a step over the arc leads.
-pub fn far_end<C: CostKind>(arc: Arc<C>, along: bool) -> usize
-    ensures { result ≡ far arc along }
-{
-    if along { arc.to } else { arc.from }
 }

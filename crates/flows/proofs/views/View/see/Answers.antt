@@ -1,6 +1,4 @@
-use Rattle.std.proofs.Common.{arith, rules}
-use Rattle.std.proofs.lemmas.List.{get_or_read}
-use Rattle.networks.proofs.Shown.{length_shown}
+use Rattle.std.proofs.Common.{arith}
 use Rattle.flows.proofs.views.View.see.Goals as goal
 
 pub reduced-requires : goal.reduced-requires
