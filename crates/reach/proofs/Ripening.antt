@@ -7,16 +7,16 @@ use Rattle.flows.specs.Kilter.{price, reduced}
 use Rattle.networks.specs.Nets.{IsAt}
 use Rattle.networks.specs.declared.network.Arc.{Arc}
 use Rattle.labels.specs.declared.labelling.Labels.{Labels}
-use Rattle.flows.specs.Laps.{near, far}
+use Rattle.flows.specs.Laps.{near, far, step_over}
 use Rattle.flows.specs.Fits.{Fit, Fitting}
 use Rattle.labels.specs.Moves.{may}
-use Rattle.labels.specs.Good.{count, node_at, place_of, pushed, Labelled, Good, Grown}
+use Rattle.labels.specs.Good.{count, node_at, place_of, pushed, linked_by, Labelled, Good, Grown}
 use Rattle.flows.proofs.ArcSums.{same_at}
 use Rattle.flows.proofs.Group.{cancel, le_refl, left}
 use Rattle.flows.proofs.Prices.{to_raised, from_raised}
 use Rattle.labels.proofs.Extending.{new_room, new_good, new_grown}
 use Rattle.reach.specs.declared.scans.Best.{Best}
-use Rattle.reach.specs.declared.scans.Crossing.{Crossing}
+use Rattle.flows.specs.declared.steps.Step.{Step}
 use Rattle.flows.specs.Prices.{Raised}
 use Rattle.reach.specs.Scans.{is_labelled, crossing_at, slack_at, BestIs, Ripe, link_over}
 
@@ -38,7 +38,7 @@ near_fits K N a false f = (f.ends.2, f.ends.3)
 
 -- labelling over an arc that leads across
 module _ {C : Type 0} (K : Kind C) (arcs : List (Arc C)) (flow : List ℤ) (prices : List C) (chosen : ℕ) (few : length prices ≤ 256) (ls : Labels) (good : Good K arcs flow prices chosen ls) (fitting : Fitting K (length prices) arcs)
-    (x : Crossing) (ripe : Ripe K arcs flow prices chosen ls x) (a : Arc C) (is : IsAt arcs x.arc a) where
+    (x : Step) (ripe : Ripe K arcs flow prices chosen ls x) (a : Arc C) (is : IsAt arcs x.arc a) where
   n : ℕ
   n = near a x.along
 
@@ -48,8 +48,14 @@ module _ {C : Type 0} (K : Kind C) (arcs : List (Arc C)) (flow : List ℤ) (pric
   across : Labelled ls (near a x.along) × (place_of ls (far a x.along) ≡ 0)
   across = crossed ls a x.along (subst (λ z. crossing_at ls z ≡ Some x.along) same ripe.1.leads)
 
-  pub link_near : Labelled ls (near a x.along)
-  link_near = across.0
+  at_near : x.node ≡ near a x.along
+  at_near = ripe.2 ∙ ap (λ z. near z x.along) same
+
+  pub link_near : Labelled ls x.node
+  link_near = subst (Labelled ls) (sym at_near) across.0
+
+  pub link_node : (1 ≤ x.node) × (x.node ≤ 256)
+  link_node = let f = near_fits K (length prices) a x.along (fitting x.arc a is) in (omega (arith, f.0, at_near), omega (arith, f.1, at_near, few))
 
   held : (place_of ls (near a x.along) ≤ count ls) × (node_at ls (place_of ls (near a x.along) - 1) ≡ near a x.along)
   held = good.whole.holds (near a x.along) (near_fits K (length prices) a x.along (fitting x.arc a is)).0 across.0
@@ -61,13 +67,13 @@ module _ {C : Type 0} (K : Kind C) (arcs : List (Arc C)) (flow : List ℤ) (pric
   before = omega (arith, held.0, across.0)
 
   moves : may K prices a x.along (get_or flow x.arc (pos 0)) ≡ true
-  moves = subst (λ z. may K prices z x.along (get_or flow x.arc (pos 0)) ≡ true) same ripe.2
+  moves = subst (λ z. may K prices z x.along (get_or flow x.arc (pos 0)) ≡ true) same ripe.3
 
   pub link_room : count ls < 256
   link_room = new_room K arcs flow prices chosen few ls good (place_of ls (near a x.along) - 1) x.arc before ripe.1.other a is (fitting x.arc a is) x.along (sym held.1) across.1 moves
 
-  as_entry : pushed ls (record { node = far a x.along; parent = place_of ls (near a x.along) - 1; step = record { node = node_at ls (place_of ls (near a x.along) - 1); arc = x.arc; along = x.along } }) ≡ pushed ls (link_over ls a x)
-  as_entry = ap (λ (z : ℕ). pushed ls (record { node = far a x.along; parent = place_of ls (near a x.along) - 1; step = record { node = z; arc = x.arc; along = x.along } })) held.1
+  as_entry : pushed ls (linked_by a (step_over x.arc a x.along) (place_of ls (near a x.along) - 1)) ≡ pushed ls (link_over ls a x)
+  as_entry = ap (λ (z : ℕ). pushed ls (linked_by a (record { node = z; arc = x.arc; along = x.along }) (place_of ls z - 1))) (sym at_near)
 
   pub link_good : (ms : Labels) → ms ≡ pushed ls (link_over ls a x) → Good K arcs flow prices chosen ms
   link_good ms e = subst (Good K arcs flow prices chosen) (as_entry ∙ sym e) (new_good K arcs flow prices chosen few ls good (place_of ls (near a x.along) - 1) x.arc before ripe.1.other a is (fitting x.arc a is) x.along (sym held.1) across.1 moves)
@@ -133,6 +139,6 @@ module _ {C : Type 0} (K : Kind C) (laws : Laws K) where
         ap (λ z. lt_z (cond z a.lo a.hi) f) (ap (K.le K.zero) r ∙ le_refl K laws K.zero) ∙ u.1
 
     pub ripe_raised : (b : Best C) → b.slack ≡ e → Fitting K (length ps) arcs → BestIs K arcs flow ps chosen ls (Some b) → Ripe K arcs flow qs chosen ls b.over
-    ripe_raised b q fitting (a, x, s) =
+    ripe_raised b q fitting (a, x, node, s) =
         let w = crossed ls a b.over.along x.leads in
-        (a, x, tight a b.over.along (get_or flow b.over.arc (pos 0)) (fitting b.over.arc a x.is) w.0 w.1 (s ∙ ap Some q))
+        (a, x, node, tight a b.over.along (get_or flow b.over.arc (pos 0)) (fitting b.over.arc a x.is) w.0 w.1 (s ∙ ap Some q))

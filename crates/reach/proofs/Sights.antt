@@ -4,6 +4,7 @@ use Rattle.std.proofs.lemmas.Bool.{cases_eq}
 use Rattle.std.proofs.lemmas.List.{length-drop}
 use Rattle.costs.specs.Kinds.{Kind, Laws}
 use Rattle.flows.specs.Kilter.{reduced}
+use Rattle.flows.specs.Laps.{step_over}
 use Rattle.networks.specs.Nets.{IsAt}
 use Rattle.networks.specs.declared.network.Arc.{Arc}
 use Rattle.flows.proofs.Group.{le_refl}
@@ -45,7 +46,7 @@ module _ {C : Type 0} (K : Kind C) (laws : Laws K) (arcs : List (Arc C)) (flow :
       seen_free free = seen_more n best best old (λ s h. h) (only (λ b d. may K prices b d (get_or flow n (pos 0)) ≡ false) closed)
           (only (λ b d. (s : C) → slack_at K (reduced K prices b) b d (get_or flow n (pos 0)) ≡ Some s → AtMost K best s) (λ s e. absurd cc)) old.found
 
-      pub seen_slack : (s : C) (b : Best C) → (n ≡ chosen → ⊥) → Some s ≡ slack_at K (reduced K prices a) a along (get_or flow n (pos 0)) → b ≡ record { slack = s; over = record { arc = n; along = along } } → (r : Best C) → r ≡ nearer_of K best b → Sighted K arcs flow prices chosen ls (n + 1) (Some r)
+      pub seen_slack : (s : C) (b : Best C) → (n ≡ chosen → ⊥) → Some s ≡ slack_at K (reduced K prices a) a along (get_or flow n (pos 0)) → b ≡ record { slack = s; over = step_over n a along } → (r : Best C) → r ≡ nearer_of K best b → Sighted K arcs flow prices chosen ls (n + 1) (Some r)
       seen_slack s b other e be r re = subst (λ z. Sighted K arcs flow prices chosen ls (n + 1) (Some z)) (sym re) (seen_more n best (Some (nearer_of K best b)) old (fewer best)
           (only (λ b d. may K prices b d (get_or flow n (pos 0)) ≡ false) closed)
           (only (λ x d. (t : C) → slack_at K (reduced K prices x) x d (get_or flow n (pos 0)) ≡ Some t → AtMost K (Some (nearer_of K best b)) t) (λ t q. let same : s ≡ t = cc in subst (λ z. AtMost K (Some (nearer_of K best b)) z) same (here best)))
@@ -68,7 +69,7 @@ module _ {C : Type 0} (K : Kind C) (laws : Laws K) (arcs : List (Arc C)) (flow :
               go false q = laws.trans b.slack d.slack t (laws.total d.slack b.slack q) h
 
           mine : BestIs K arcs flow prices chosen ls (Some b)
-          mine = subst (λ z. BestIs K arcs flow prices chosen ls (Some z)) (sym be) (a, record { other = other; is = is; leads = sym way }, sym e)
+          mine = subst (λ z. BestIs K arcs flow prices chosen ls (Some z)) (sym be) (a, record { other = other; is = is; leads = sym way }, refl, sym e)
 
           is_one : (o : Option (Best C)) → BestIs K arcs flow prices chosen ls o → BestIs K arcs flow prices chosen ls (Some (nearer_of K o b))
           is_one None h = mine
@@ -79,15 +80,15 @@ module _ {C : Type 0} (K : Kind C) (laws : Laws K) (arcs : List (Arc C)) (flow :
               go false = mine
 
     -- whatever it makes of the best
-    pub sighted : (along : Bool) → Some along ≡ crossing_at ls a → (n ≡ chosen → ⊥) → Scanned K arcs flow prices chosen ls (n + 1) (sight_of K (reduced K prices a) a (record { arc = n; along = along }) (get_or flow n (pos 0)) best)
+    pub sighted : (along : Bool) → Some along ≡ crossing_at ls a → (n ≡ chosen → ⊥) → Scanned K arcs flow prices chosen ls (n + 1) (sight_of K (reduced K prices a) a (step_over n a along) (get_or flow n (pos 0)) best)
     sighted along way other = go (may K prices a along (get_or flow n (pos 0))) refl
       where
-        rest : (o : Option C) → o ≡ slack_at K (reduced K prices a) a along (get_or flow n (pos 0)) → may K prices a along (get_or flow n (pos 0)) ≡ false → Sighted K arcs flow prices chosen ls (n + 1) (best_of K o (record { arc = n; along = along }) best)
+        rest : (o : Option C) → o ≡ slack_at K (reduced K prices a) a along (get_or flow n (pos 0)) → may K prices a along (get_or flow n (pos 0)) ≡ false → Sighted K arcs flow prices chosen ls (n + 1) (best_of K o (step_over n a along) best)
         rest None e q = seen_free along way q e
-        rest (Some s) e q = seen_slack along way q s (record { slack = s; over = record { arc = n; along = along } }) other e refl (nearer_of K best (record { slack = s; over = record { arc = n; along = along } })) refl
+        rest (Some s) e q = seen_slack along way q s (record { slack = s; over = step_over n a along }) other e refl (nearer_of K best (record { slack = s; over = step_over n a along })) refl
 
-        go : (t : Bool) → may K prices a along (get_or flow n (pos 0)) ≡ t → Scanned K arcs flow prices chosen ls (n + 1) (cond t (Break (record { arc = n; along = along })) (Continue (best_of K (slack_at K (reduced K prices a) a along (get_or flow n (pos 0))) (record { arc = n; along = along }) best)))
-        go true q = (a, record { other = other; is = is; leads = sym way }, q)
+        go : (t : Bool) → may K prices a along (get_or flow n (pos 0)) ≡ t → Scanned K arcs flow prices chosen ls (n + 1) (cond t (Break (step_over n a along)) (Continue (best_of K (slack_at K (reduced K prices a) a along (get_or flow n (pos 0))) (step_over n a along) best)))
+        go true q = (a, record { other = other; is = is; leads = sym way }, refl, q)
         go false q = rest (slack_at K (reduced K prices a) a along (get_or flow n (pos 0))) refl q
 
   -- where no arc is left, all are seen

@@ -1,5 +1,5 @@
 -- What a round does, by what the next rise is for.
-use Rattle.std.proofs.Common.{◌≡◌, ℕ, ◌+◌, ◌<◌, ◌≤◌, Bool, true, false, cond, List, length, get_or, ℤ, pos, Some, None, Option, Ok, Err, sym, refl, ap, subst, inl, inr, arith}
+use Rattle.std.proofs.Common.{◌≡◌, ◌+◌, ◌<◌, ◌≤◌, Bool, true, false, cond, List, length, get_or, ℤ, pos, Some, None, Option, Ok, Err, sym, refl, ap, subst, inl, inr, arith}
 use Rattle.std.proofs.lemmas.Bool.{lt-ltb, le-ltb}
 use Rattle.costs.specs.Kinds.{Kind, Laws}
 use Rattle.networks.specs.Nets.{IsAt}
@@ -22,7 +22,7 @@ use Rattle.reach.specs.Scans.{is_labelled, AtMost, BestIs, Sighted, Ripe, link_o
 use Rattle.reach.specs.Rises.{own_limit_at, next_of, NextIs, Risen}
 use Rattle.reach.specs.Rounds.{Searching, NoHigher, Advanced}
 use Rattle.reach.proofs.Repriced.{good_raised}
-use Rattle.reach.proofs.Ripening.{crossed, slack_is, ripe_raised, link_near, link_room, link_good, link_grown, link_more}
+use Rattle.reach.proofs.Ripening.{crossed, slack_is, ripe_raised, link_near, link_node, link_room, link_good, link_grown, link_more}
 use Rattle.reach.proofs.Landing.{rise_small, landing}
 use Rattle.reach.proofs.Wanting.{ShortOf, UpTo, own_up}
 use Rattle.reach.proofs.Aiming.{Aimed, aim, own_small, own_lands, still_chosen}
@@ -134,11 +134,11 @@ module _ {C : Type 0} {K : Kind C} (laws : Laws K) {arcs : List (Arc C)} {flow :
 
     pub label_small : K.size b.slack ≤ change_limit
     label_small =
-        let (a, x, s) = found in
+        let (a, x, node, s) = found in
         rise_small K laws ps a b.over.along b.slack (slack_is K laws (reduced K ps a) b.slack a b.over.along (get_or flow b.over.arc (pos 0)) s).0 (now.fitting b.over.arc a x.is) small
 
     pub label_short : b.over.arc < length flow
-    label_short = let (a, x, s) = found in omega (arith, x.is.0, now.long)
+    label_short = let (a, x, node, s) = found in omega (arith, x.is.0, now.long)
 
     module _ (qs : List C) (same : length qs ≡ length ps) (raised : Raised K (length ps) b.slack (is_labelled ls) ps qs) where
       fits : Fitting K (length qs) arcs
@@ -152,19 +152,22 @@ module _ {C : Type 0} {K : Kind C} (laws : Laws K) {arcs : List (Arc C)} {flow :
 
       lands : Risen K (length ps) ls ps qs
       lands =
-          let (a, x, s) = found in
+          let (a, x, node, s) = found in
           let w = crossed ls a b.over.along x.leads in
           landing K laws ls ps qs a b.over.along b.slack (slack_is K laws (reduced K ps a) b.slack a b.over.along (get_or flow b.over.arc (pos 0)) s).0 (now.fitting b.over.arc a x.is)
           (lt-ltb 0 (place_of ls (near a b.over.along)) w.0) (le-ltb 0 (place_of ls (far a b.over.along)) (let z = w.1 in omega arith)) raised
 
       up : K.le K.zero b.slack ≡ true
-      up = let (a, x, s) = found in (slack_is K laws (reduced K ps a) b.slack a b.over.along (get_or flow b.over.arc (pos 0)) s).1
+      up = let (a, x, node, s) = found in (slack_is K laws (reduced K ps a) b.slack a b.over.along (get_or flow b.over.arc (pos 0)) s).1
 
       module _ (few : length ps ≤ 256) {a : Arc C} (is : IsAt arcs b.over.arc a) where
         short : length qs ≤ 256
         short = omega (arith, same, few)
 
-        pub label_near : Labelled ls (near a b.over.along)
+        pub label_node : (1 ≤ b.over.node) × (b.over.node ≤ 256)
+        label_node = link_node K arcs flow qs chosen.arc short ls still_good fits b.over ripe a is
+
+        pub label_near : Labelled ls b.over.node
         label_near = link_near K arcs flow qs chosen.arc short ls still_good fits b.over ripe a is
 
         pub label_room : count ls < 256

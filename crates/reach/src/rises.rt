@@ -28,7 +28,7 @@ pub fn raise<C: CostKind>(prices: &mut [C], labels: &Labels, by: C)
     ensures raised { Raised C.CostKind.kind (length prices.old) by (is_labelled labels.now) prices.old prices.new }
     ensures long { length prices.new ≡ length prices.old }
 {
-    flows::raise(prices, by, |i| labels.places[i] > 0);
+    flows::raise(prices, by, |i| labels.place(i + 1).is_some());
 }
 
 // By how much prices may rise before the chosen arc is in kilter: no limit while it is outside its bounds.

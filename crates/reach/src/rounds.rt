@@ -94,7 +94,6 @@ pub fn reach<N: Network>(
     requires searching { Searching N.Cost.CostKind.kind (shown (N.meaning net.now)) flow.now prices.old chosen labels.old }
     requires few { length prices.old ≤ 256 }
     requires tame { Bounded N.Cost.CostKind.kind large prices.old }
-    requires node { (1 ≤ chosen.node) × (chosen.node ≤ length prices.old) }
     requires one { count labels.old ≡ 1 }
     ensures prices { Repriced N.Cost.CostKind.kind (shown (N.meaning net.now)) flow.now prices.old prices.new }
     ensures ends { EndsWith N.Cost.CostKind.kind (shown (N.meaning net.now)) flow.now prices.new chosen labels.new result }

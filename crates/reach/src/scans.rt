@@ -3,28 +3,20 @@
 ghost use Rattle.std.specs.Prelude.{◌≡◌, ℕ, ◌+◌, ◌-◌, ◌<◌, ◌≤◌, length};
 ghost use Rattle.networks.specs.Nets.{shown, IsAt};
 ghost use Rattle.flows.specs.Flows.{Ends};
-ghost use Rattle.flows.specs.Laps.{near};
 ghost use Rattle.labels.specs.Good.{Labelled, count, pushed};
 ghost use Rattle.reach.specs.Scans.{crossing_at, slack_at, nearer_of, sight_of, Sighted, Scanned, link_over};
 
 use costs::CostKind;
 use flows::{Seen, Step, arcs_of, opposite};
-use labels::{Aim, Entry, Labels, far_end, may};
+use labels::{Aim, Labels, may};
 use networks::{Arc, Network};
 use std::ops::ControlFlow;
-
-// An arc by its place, and the way in which it leads from the labelled nodes to the others.
-#[derive(Clone, Copy)]
-pub struct Crossing {
-    pub arc: usize,
-    pub along: bool,
-}
 
 // An arc that may move once the prices have risen by the slack.
 #[derive(Clone, Copy)]
 pub struct Best<C> {
     pub slack: C,
-    pub over: Crossing,
+    pub over: Step,
 }
 
 // The way in which an arc leads from the labelled nodes to the others.
@@ -32,7 +24,10 @@ fn way_across<C: CostKind>(arc: Arc<C>, labels: &Labels) -> Option<bool>
     requires { Ends 256 arc }
     ensures { result ≡ crossing_at labels.now arc }
 {
-    match (labels.place(arc.from) > 0, labels.place(arc.to) > 0) {
+    match (
+        labels.place(arc.from).is_some(),
+        labels.place(arc.to).is_some(),
+    ) {
         (true, false) => Some(true),
         (false, true) => Some(false),
         _ => None,
@@ -70,9 +65,9 @@ fn nearer<C: CostKind>(best: Option<Best<C>>, b: Best<C>) -> Best<C>
 // What an arc that leads across makes of the best so far; it ends the scan where it may move at once.
 fn sight<C: CostKind>(
     seen: Seen<C>,
-    over: Crossing,
+    over: Step,
     best: Option<Best<C>>,
-) -> ControlFlow<Crossing, Option<Best<C>>>
+) -> ControlFlow<Step, Option<Best<C>>>
     requires { C.CostKind.kind.size seen.cost ≤ 4000000000000000 }
     ensures { result ≡ sight_of C.CostKind.kind seen.cost seen.arc over seen.flow best }
 {
@@ -92,7 +87,7 @@ fn look<N: Network>(
     i: usize,
     arc: Arc<N::Cost>,
     best: Option<Best<N::Cost>>,
-) -> ControlFlow<Crossing, Option<Best<N::Cost>>>
+) -> ControlFlow<Step, Option<Best<N::Cost>>>
     requires arc { IsAt (shown (N.meaning aim.now.view.net.now)) i arc }
     requires sighted { Sighted N.Cost.CostKind.kind (shown (N.meaning aim.now.view.net.now)) aim.now.view.flow.now aim.now.view.prices.now aim.now.chosen.arc labels.now i best }
     ensures { Scanned N.Cost.CostKind.kind (shown (N.meaning aim.now.view.net.now)) aim.now.view.flow.now aim.now.view.prices.now aim.now.chosen.arc labels.now (i + 1) result }
@@ -103,14 +98,14 @@ fn look<N: Network>(
     let Some(along) = way_across(arc, labels) else {
         return ControlFlow::Continue(best);
     };
-    sight(aim.view.see(i, arc), Crossing { arc: i, along }, best)
+    sight(aim.view.see(i, arc), Step::over(i, arc, along), best)
 }
 
 // Looks at every arc between the labelled nodes and the others.
 pub fn look_round<N: Network>(
     aim: &Aim<N>,
     labels: &Labels,
-) -> ControlFlow<Crossing, Option<Best<N::Cost>>>
+) -> ControlFlow<Step, Option<Best<N::Cost>>>
     ensures { Scanned N.Cost.CostKind.kind (shown (N.meaning aim.now.view.net.now)) aim.now.view.flow.now aim.now.view.prices.now aim.now.chosen.arc labels.now (length (shown (N.meaning aim.now.view.net.now))) result }
 {
     let mut best = None;
@@ -121,21 +116,13 @@ pub fn look_round<N: Network>(
 }
 
 // Labels the far end of an arc that leads across.
-pub fn link<C: CostKind>(arc: Arc<C>, over: Crossing, labels: &mut Labels)
+pub fn link<C: CostKind>(arc: Arc<C>, over: Step, labels: &mut Labels)
     requires ends { Ends 256 arc }
-    requires near { Labelled labels.old (near arc over.along) }
+    requires node { (1 ≤ over.node) × (over.node ≤ 256) }
+    requires near { Labelled labels.old over.node }
     requires room { count labels.old < 256 }
     ensures { labels.new ≡ pushed labels.old (link_over labels.old arc over) }
 {
-    let Crossing { arc: i, along } = over;
-    let near = far_end(arc, !along);
-    labels.push(Entry {
-        node: far_end(arc, along),
-        parent: labels.place(near) - 1,
-        step: Step {
-            node: near,
-            arc: i,
-            along,
-        },
-    });
+    let parent = labels.place(over.node).unwrap();
+    labels.link(arc, over, parent);
 }

@@ -1,12 +1,13 @@
 -- The step that an arc out of kilter wants.
-use Rattle.std.proofs.Common.{◌≡◌, ℕ, ◌≤◌, Bool, true, false, cond, not, ◌&&◌, ◌⊎◌, List, length, get_or, ℤ, pos, ◌≤ℤ◌, ◌<ℤ◌, Some, None, sym, refl, ap, ◌∙◌, subst, inl, inr, arith}
+use Rattle.std.proofs.Common.{◌≡◌, ℕ, ◌≤◌, Bool, true, false, cond, not, ◌&&◌, ◌⊎◌, List, length, get_or, ℤ, pos, ◌≤ℤ◌, ◌<ℤ◌, Some, None, sym, refl, ap, subst, inl, inr, arith}
 use lib.Signed.{lt_z}
 use Rattle.std.proofs.lemmas.Int.{ints}
 use Rattle.std.proofs.lemmas.Bool.{not-true}
 use Rattle.costs.specs.Kinds.{Kind, Laws, less}
 use Rattle.networks.specs.declared.network.Arc.{Arc}
 use Rattle.networks.specs.Nets.{IsAt}
-use Rattle.flows.specs.Laps.{near, far}
+use Rattle.flows.specs.declared.steps.Step.{Step}
+use Rattle.flows.specs.Laps.{near, far, step_over}
 use Rattle.flows.specs.Kilter.{reduced, way}
 use Rattle.flows.specs.Fits.{Fit}
 use Rattle.flows.proofs.ArcSums.{same_at}
@@ -56,8 +57,8 @@ module _ {C : Type 0} (K : Kind C) (laws : Laws K) where
       go : (b : Bool) → ((b ≡ true) × WantsMore K (reduced K prices a) a f) ⊎ ((b ≡ false) × WantsLess K (reduced K prices a) a f) → Amiss K prices a b f × (may K prices a b f ≡ true)
       go true (inl (t, w)) = let r = more_amiss K laws prices a f h w in (r.0, lower f (cond (K.le (reduced K prices a) K.zero) a.hi a.lo) r.1)
       go false (inr (t, w)) = let r = less_amiss K laws prices a f h w in (r.0, lower (cond (K.le K.zero (reduced K prices a)) a.lo a.hi) f r.1)
-      go true (inr (t, w)) = absurd (let w : ◌≡◌ {A = ℕ} 0 1 = ap (λ b. cond b 0 1) t in omega arith)
-      go false (inl (t, w)) = absurd (let w : ◌≡◌ {A = ℕ} 0 1 = ap (λ b. cond b 1 0) t in omega arith)
+      go true (inr (t, w)) = absurd cc
+      go false (inl (t, w)) = absurd cc
 
   ends_fit : (N : ℕ) (a : Arc C) (b : Bool) → Fit K N a → (1 ≤ far a b) × (far a b ≤ N)
   ends_fit N a true fit = (fit.ends.2, fit.ends.3)
@@ -67,19 +68,20 @@ module _ {C : Type 0} (K : Kind C) (laws : Laws K) where
   near_far a true = refl
   near_far a false = refl
 
-  pub wanted_is : (N : ℕ) (arcs : List (Arc C)) (flow : List ℤ) (prices : List C) (i : ℕ) (a : Arc C) (along : Bool) (node source : ℕ) → IsAt arcs i a → Fit K N a → length flow ≡ length arcs →
-      Some along ≡ way K (reduced K prices a) a (get_or flow i (pos 0)) → source ≡ far a along → node ≡ far a (not along) → Wanted K N arcs flow prices i (record { node = node; arc = i; along = along }) source
-  wanted_is N arcs flow prices i a along node source is fit long e s n =
+  pub wanted_is : (N : ℕ) (arcs : List (Arc C)) (flow : List ℤ) (prices : List C) (i : ℕ) (a : Arc C) (along : Bool) (step : Step) (source : ℕ) → IsAt arcs i a → Fit K N a → length flow ≡ length arcs →
+      Some along ≡ way K (reduced K prices a) a (get_or flow i (pos 0)) → step ≡ step_over i a along → source ≡ far a along → Wanted K N arcs flow prices i step source
+  wanted_is N arcs flow prices i a along step source is fit long e t s =
       let m = amiss_may prices a (get_or flow i (pos 0)) along fit.order e in
       let f = ends_fit N a along fit in
       let o = ends_fit N a (not along) fit in
-      record {
+      subst (λ z. Wanted K N arcs flow prices i z source) (sym t)
+      (record {
         chosen = record {
-          leads = (a, is, sym (n ∙ near_far a along), sym s);
+          leads = (a, is, refl, sym s);
           moving = (is.0, λ b bt. subst (λ z. may K prices z along (get_or flow i (pos 0)) ≡ true) (same_at arcs i a b is bt) m.1);
           amiss = λ b bt. subst (λ z. Amiss K prices z along (get_or flow i (pos 0))) (same_at arcs i a b is bt) m.0;
         };
         over = refl;
-        node = (omega (arith, o.0), omega (arith, o.1));
-        sources = (omega (arith, f.0), omega (arith, f.1));
-      }
+        node = subst (λ z. (1 ≤ z) × (z ≤ N)) (near_far a along) o;
+        sources = subst (λ z. (1 ≤ z) × (z ≤ N)) (sym s) f;
+      })

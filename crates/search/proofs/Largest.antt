@@ -1,5 +1,5 @@
 -- The largest size among a list's costs, as the list's greatest number.
-use Rattle.std.proofs.Common.{◌≡◌, ℕ, List, [], ◌∷◌, max, map, fold, Some, None, refl, ap, ◌∙◌, sym, arith}
+use Rattle.std.proofs.Common.{◌≡◌, ℕ, List, [], ◌∷◌, max, map, fold, refl, arith}
 use Rattle.std.specs.List.{reduce}
 use Rattle.std.specs.Option.{unwrap_or}
 use Rattle.costs.specs.Kinds.{Kind}

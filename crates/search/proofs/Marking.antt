@@ -1,5 +1,5 @@
 -- The marks of labelled nodes that are cut off.
-use Rattle.std.proofs.Common.{◌≡◌, ℕ, ◌-◌, ◌<◌, ◌≤◌, Bool, true, false, cond, eqb, ltb, ◌⊎◌, List, length, get_or, ℤ, pos, ◌≤ℤ◌, ◌<ℤ◌, sym, refl, ap, ◌∙◌, subst, subst₂, ⊎_elim, arith}
+use Rattle.std.proofs.Common.{◌≡◌, ℕ, ◌+◌, ◌-◌, ◌<◌, ◌≤◌, Bool, true, false, cond, eqb, ◌⊎◌, List, length, get_or, ℤ, pos, ◌≤ℤ◌, ◌<ℤ◌, sym, refl, ap, ◌∙◌, subst, subst₂, ⊎_elim, arith}
 use Rattle.std.proofs.lemmas.List.{get_or_past}
 use Rattle.std.proofs.lemmas.Bool.{cases_lt}
 use Rattle.costs.specs.Kinds.{Kind}
@@ -11,22 +11,23 @@ use Rattle.flows.specs.Fits.{Fitting}
 use Rattle.flows.proofs.ArcSums.{each_at, each_from, at_place}
 use Rattle.flows.proofs.Cuts.{Stuck}
 use Rattle.labels.specs.declared.labelling.Labels.{Labels}
-use Rattle.labels.specs.Good.{place_of}
 use Rattle.reach.specs.Scans.{is_labelled}
 use Rattle.reach.specs.Rounds.{CutOff}
 use Rattle.search.specs.Going.{CutMarked}
 
 module _ {C : Type 0} (K : Kind C) (N : ℕ) (arcs : List (Arc C)) (flow : List ℤ) (fitting : Fitting K N arcs) (long : length flow ≡ length arcs) (ls : Labels) (marks : List ℕ) (all : length marks ≡ N)
-    (are : (k : ℕ) → k < length marks → get_or marks k 0 ≡ cond (ltb 0 (get_or ls.places k 0)) 1 0) where
+    (are : (k : ℕ) → k < length marks → get_or marks k 0 ≡ cond (is_labelled ls (k + 1)) 1 0) where
   one_if : (b : Bool) → eqb (cond b 1 0) 1 ≡ b
   one_if true = refl
   one_if false = refl
 
   same : (n : ℕ) → 1 ≤ n → n ≤ N → is_labelled ls n ≡ marked marks n
-  same n l h = sym (ap (λ z. eqb z 1) (are (n - 1) (omega arith)) ∙ one_if (ltb 0 (place_of ls n)))
+  same n l h =
+      let back : n - 1 + 1 ≡ n = omega arith in
+      sym (ap (λ z. eqb z 1) (are (n - 1) (omega arith)) ∙ one_if (is_labelled ls (n - 1 + 1)) ∙ ap (is_labelled ls) back)
 
   bits : (n : ℕ) → get_or marks n 0 ≤ 1
-  bits n = ⊎_elim (λ (h : n < length marks). subst (λ z. z ≤ 1) (sym (are n h)) (bit (ltb 0 (get_or ls.places n 0)))) (λ (h : length marks ≤ n). subst (λ z. z ≤ 1) (sym (get_or_past marks n 0 h)) (omega arith)) (cases_lt n (length marks))
+  bits n = ⊎_elim (λ (h : n < length marks). subst (λ z. z ≤ 1) (sym (are n h)) (bit (is_labelled ls (n + 1)))) (λ (h : length marks ≤ n). subst (λ z. z ≤ 1) (sym (get_or_past marks n 0 h)) (omega arith)) (cases_lt n (length marks))
     where
       bit : (b : Bool) → cond b 1 0 ≤ 1
       bit true = omega arith

@@ -1,15 +1,16 @@
 // One attempt to bring an arc nearer to kilter: by a change of prices, or by one lap.
 
-ghost use Rattle.std.specs.Prelude.{◌≡◌, ℕ, ◌<◌, ◌≤◌, true, false, length, if◌then◌else◌, MatchOption, nat_lt, slice_index};
+ghost use Rattle.std.specs.Prelude.{◌≡◌, ℕ, ◌+◌, ◌<◌, ◌≤◌, true, false, length, if◌then◌else◌, MatchOption, slice_index};
 ghost use Rattle.networks.specs.Nets.{shown};
 ghost use Rattle.flows.specs.Fits.{Bounded};
+ghost use Rattle.reach.specs.Scans.{is_labelled};
 ghost use Rattle.reach.specs.Rounds.{large};
 ghost use Rattle.search.specs.Ready.{Ready};
 ghost use Rattle.search.specs.Going.{Eased, KilterAt, Wanted, Attempted};
 
 use costs::CostKind;
-use flows::{Step, View, amiss};
-use labels::{Labels, far_end, lap};
+use flows::{Step, View, amiss, far_end};
+use labels::{Labels, lap};
 use networks::Network;
 use reach::{Over, reach};
 use tidy::tidy;
@@ -59,29 +60,18 @@ fn wanted<N: Network>(view: &View<N>, i: usize) -> Option<Choice>
     let arc = view.arc(i);
     let along = amiss(view.see(i, arc))?;
     Some(Choice {
-        step: Step {
-            node: far_end(arc, !along),
-            arc: i,
-            along,
-        },
+        step: Step::over(i, arc, along),
         source: far_end(arc, along),
     })
-}
-
-// The mark of a node by its place among the labelled: 1 inside, 0 outside.
-fn mark_of(place: usize) -> u8
-    ensures { result ≡ (if nat_lt 0 place then 1 else 0) }
-{
-    if place > 0 { 1 } else { 0 }
 }
 
 // Marks the labelled nodes with 1 and the others with 0.
 fn mark(marks: &mut [u8], labels: &Labels)
     requires { length marks.old ≤ 256 }
-    ensures { (k : ℕ) → k < length marks.new → slice_index marks.new k ≡ (if nat_lt 0 (slice_index labels.now.places k) then 1 else 0) }
+    ensures { (k : ℕ) → k < length marks.new → slice_index marks.new k ≡ (if is_labelled labels.now (k + 1) then 1 else 0) }
 {
     for (i, m) in marks.iter_mut().enumerate() {
-        *m = mark_of(labels.places[i]);
+        *m = u8::from(labels.place(i + 1).is_some());
     }
 }
 

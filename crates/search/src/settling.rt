@@ -99,7 +99,7 @@ pub fn settle<N: Network>(
     ensures settles { Settled N.Cost.CostKind.kind (N.meaning net.now) budget (tables flow.old needs.now prices.old marks.old) result (tables flow.new needs.now prices.new marks.new) }
     ensures words { Worded N.Cost.CostKind.kind (N.meaning net.now) budget (tables flow.old needs.now prices.old marks.old) result (tables flow.new needs.now prices.new marks.new) }
 {
-    first_stop(net, flow, needs, prices.len(), marks.len())?;
+    first_stop(net, flow, needs, prices, marks)?;
     let most = (prices.len() as u64 - 1) * largest_cost(net);
     read_prices(prices, most);
     clear(marks);

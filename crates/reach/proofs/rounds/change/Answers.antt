@@ -1,4 +1,4 @@
-use Rattle.std.proofs.Common.{◌≡◌, Some, Err, sym, ap, ◌∙◌, subst}
+use Rattle.std.proofs.Common.{◌≡◌, length, Some, Err, sym, ap, ◌∙◌, subst}
 use Rattle.std.specs.Option.{ok_or}
 use Rattle.std.specs.Result.{result_ok}
 use Rattle.std.proofs.lemmas.Result.{err_from_is_err_and}
@@ -6,7 +6,9 @@ use Rattle.networks.specs.Nets.{shown}
 use Rattle.reach.specs.declared.rounds.Over.TheVariants.{Cut}
 use Rattle.reach.specs.Rises.{NextIs}
 use Rattle.reach.specs.Rounds.{Advanced}
-use Rattle.reach.proofs.Turning.{cut_done, kilter_small, kilter_done, label_small, label_short, label_near, label_room, label_done}
+use Rattle.reach.proofs.Turning.{cut_done, kilter_small, kilter_done, label_small, label_short, label_node, label_near, label_room, label_done}
+use Rattle.labels.specs.Good.{node_at}
+use Rattle.labels.proofs.Trails.{sought_there}
 use Rattle.reach.proofs.rounds.change.Goals as goal
 
 pub returns-in_err-by : goal.returns-in_err-by
@@ -41,6 +43,11 @@ link-requires-clause-near g c =
     let next = subst (NextIs g.N.Cost.CostKind.kind (shown (g.N.Network.meaning c.args.net.now)) c.args.flow.now c.args.prices.now c.args.chosen c.args.best) (c.ok_or.ensures.ok_part ∙ ap result_ok c.in_ok-by.was ∙ ap Some c.in-Label.is) c.next_rise.ensures in
     label_near g.met.N.Cost.CostKind.lawful c.requires.searching c.requires.moderate c.requires.sought c.requires.sighted next _ c.raise-in-Label.ensures.long c.raise-in-Label.ensures.raised c.requires.few c.arc-arc.ensures.is
 
+pub link-requires-clause-node : goal.link-requires-clause-node
+link-requires-clause-node g c =
+    let next = subst (NextIs g.N.Cost.CostKind.kind (shown (g.N.Network.meaning c.args.net.now)) c.args.flow.now c.args.prices.now c.args.chosen c.args.best) (c.ok_or.ensures.ok_part ∙ ap result_ok c.in_ok-by.was ∙ ap Some c.in-Label.is) c.next_rise.ensures in
+    label_node g.met.N.Cost.CostKind.lawful c.requires.searching c.requires.moderate c.requires.sought c.requires.sighted next _ c.raise-in-Label.ensures.long c.raise-in-Label.ensures.raised c.requires.few c.arc-arc.ensures.is
+
 pub link-requires-clause-room : goal.link-requires-clause-room
 link-requires-clause-room g c =
     let next = subst (NextIs g.N.Cost.CostKind.kind (shown (g.N.Network.meaning c.args.net.now)) c.args.flow.now c.args.prices.now c.args.chosen c.args.best) (c.ok_or.ensures.ok_part ∙ ap result_ok c.in_ok-by.was ∙ ap Some c.in-Label.is) c.next_rise.ensures in
@@ -55,3 +62,7 @@ pub returns-in-Label : goal.returns-in-Label
 returns-in-Label g c =
     let next = subst (NextIs g.N.Cost.CostKind.kind (shown (g.N.Network.meaning c.args.net.now)) c.args.flow.now c.args.prices.now c.args.chosen c.args.best) (c.ok_or.ensures.ok_part ∙ ap result_ok c.in_ok-by.was ∙ ap Some c.in-Label.is) c.next_rise.ensures in
     label_done g.met.N.Cost.CostKind.lawful c.requires.searching c.requires.moderate c.requires.sought c.requires.sighted next _ c.raise-in-Label.ensures.long c.raise-in-Label.ensures.raised c.requires.few c.arc-arc.ensures.is c.link.new.labels c.link.ensures
+
+pub invariant_of-aim-2-clause-sought : goal.invariant_of-aim-2-clause-sought
+invariant_of-aim-2-clause-sought g c =
+    sought_there g.N.Cost.CostKind.kind (length c.args.prices.now) (shown (g.N.Network.meaning c.args.net.now)) c.args.flow.now c.args.prices.now c.args.chosen (node_at c.args.labels.now 0) c.requires.searching.fitting c.requires.searching.wanted

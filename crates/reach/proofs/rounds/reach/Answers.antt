@@ -1,11 +1,12 @@
-use Rattle.std.proofs.Common.{Err, sym, ap, ◌∙◌, subst, arith}
+use Rattle.std.proofs.Common.{length, Err, sym, ap, ◌∙◌, subst, arith}
 use Rattle.std.proofs.lemmas.Result.{err_from_is_err_and}
 use Rattle.std.proofs.lemmas.Bool.{ltb-true}
 use Rattle.networks.specs.Nets.{shown}
 use Rattle.flows.specs.Fits.{Fitting}
-use Rattle.labels.specs.Good.{place_of}
+use Rattle.labels.specs.Good.{node_at, place_of}
 use Rattle.reach.specs.Rounds.{EndsWith, Advanced}
 use Rattle.reach.proofs.Rounding.{rounding_start, rounding_small, rounding_labelled, rounding_advanced, repriced_here, repriced_after}
+use Rattle.labels.proofs.Trails.{sought_there}
 use Rattle.reach.proofs.rounds.reach.Goals as goal
 
 pub rounds-init : goal.rounds-init
@@ -55,3 +56,10 @@ returns-in_err-advance g c =
       prices = repriced_after g.met.N.Cost.CostKind.lawful c.requires.tame now done;
       ends = subst (EndsWith g.N.Cost.CostKind.kind (shown (g.N.Network.meaning c.args.net.now)) c.args.flow.now c.advance.new.prices c.args.chosen c.advance.new.labels) (sym (p.1 ∙ ap Err p.2)) done.ends;
     }
+
+pub invariant_of-label-clause-sought : goal.invariant_of-label-clause-sought
+invariant_of-label-clause-sought g c =
+    let K = g.N.Cost.CostKind.kind in
+    let arcs = shown (g.N.Network.meaning c.args.net.now) in
+    let fitting = subst (λ n. Fitting K n arcs) (sym c.rounds.invariant.held.long) c.requires.searching.fitting in
+    sought_there K (length c.rounds.prices) arcs c.args.flow.now c.rounds.prices c.args.chosen (node_at c.rounds.labels 0) fitting c.rounds.invariant.wanted

@@ -1,5 +1,5 @@
 use Rattle.reach.specs.Rounds.{EndsWith}
-use Rattle.std.proofs.Common.{Err, ap, ◌≡◌, ℕ, ◌≤◌, length, sym, refl, ◌∙◌, subst, arith}
+use Rattle.std.proofs.Common.{Err, ap, ◌≤◌, length, sym, refl, ◌∙◌, subst, arith}
 use Rattle.networks.specs.Nets.{shown}
 use Rattle.labels.specs.Ways.{Chosen}
 use Rattle.search.specs.Going.{KilterAt}
@@ -38,7 +38,6 @@ reach-requires g c =
       };
       few = few;
       tame = c.tame.ensures.tame;
-      node = (want.node.0, omega (arith, want.node.1, ready.priced));
       one = b.one;
     }
 
@@ -101,7 +100,6 @@ lap-requires g c =
       long = now.ready.long;
       small = now.ready.small;
       good = found.good;
-      node = (c.in-Some.ensures.node.0, omega (arith, c.in-Some.ensures.node.1, now.ready.few));
       reached = found.reached;
       chosen = found.wanted;
     }

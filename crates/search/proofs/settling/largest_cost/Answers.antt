@@ -13,6 +13,6 @@ returns g c =
     let K = g.N.Cost.CostKind.kind in
     let arcs = shown (g.N.Network.meaning c.args.net.now) in
     let most : option_map (λ x. x) c.max.result ≡ reduce max (map (λ a. K.size a.cost) arcs) =
-        max_from_yields_List _ _ c.max.ensures.ran
-        (YieldsList-from_map _ (λ a. K.size a.cost) (YieldsList-from_first (λ x. x) (λ s. drop s.given (shown (g.N.Network.meaning s.net.now))) arcs (let is = c.map.ensures.source in cc)) c.map.ensures.closure (λ x r q k. search rules)) in
+    max_from_yields_List _ _ c.max.ensures.ran
+    (YieldsList-from_map _ (λ a. K.size a.cost) (YieldsList-from_first (λ x. x) (λ s. drop s.given (shown (g.N.Network.meaning s.net.now))) arcs (let is = c.map.ensures.source in cc)) c.map.ensures.closure (λ x r q k. search rules)) in
     c.unwrap_or.ensures ∙ ap (λ o. unwrap_or o 0) (sym (option_map_id _) ∙ most) ∙ reduced_is K arcs
