@@ -187,7 +187,9 @@ module _ {C : Type 0} (size : C → ℕ) (n : Net C) (e : Event C) (a : ℕ) (c 
       let effect : Effect n e (amended n a (with_cost c x)) = record {
         nodes = refl;
         ends = amended_ends n a x (with_cost c x) is refl refl;
-        bounds = λ b z h. inr ((λ (l, u, (k, g)). cc), amended_keeps n a x (with_cost c x) is (λ w y. (w.lo ≡ y.lo) × (w.hi ≡ y.hi)) (refl, refl) (λ w. (refl, refl)) b z h);
+        bounds = λ b z h.
+            let (w, (at, same)) = amended_keeps n a x (with_cost c x) is (λ w y. (w.lo ≡ y.lo) × (w.hi ≡ y.hi)) (refl, refl) (λ w. (refl, refl)) b z h in
+            inr ((λ (l, u, (k, g)). cc), (w, (at, same.0, same.1)));
         costs = new_costs x is;
         once = λ h. h;
         outs = λ _. outs_kept n e (λ l b (k, g). cc) (λ l b (k, g). cc);
