@@ -1,6 +1,7 @@
 -- Arcs in turn: the next one is the first of those left.
-use Rattle.std.proofs.Common.{◌≡◌, ℕ, suc, ◌+◌, ◌<◌, ◌≤◌, ◌⊎◌, List, [], ◌∷◌, length, get_or, drop, ℤ, pos, nat_abs, Some, None, Option, refl, ap, subst, inl, inr, arith}
+use Rattle.std.proofs.Common.{◌≡◌, ℕ, suc, ◌+◌, ◌<◌, ◌≤◌, true, ◌⊎◌, List, [], ◌∷◌, length, get_or, drop, ℤ, pos, nat_abs, Some, None, Option, refl, ap, subst, inl, inr, arith}
 use Rattle.std.specs.Prelude.{MatchOption}
+use Rattle.std.specs.Option.{is_some}
 use Rattle.networks.specs.declared.network.Arc.{Arc}
 use Rattle.networks.specs.Nets.{Net, arc_at, shown}
 use Rattle.networks.proofs.Shown.{never_absent, arc_first}
@@ -12,6 +13,11 @@ pub next_first : {C : Type 0} (n : Net C) (i : ℕ) (r : Option (Arc C)) → i <
     MatchOption r ((drop i (shown n) ≡ []) × (drop (i + 1) (shown n) ≡ [])) (λ x. drop i (shown n) ≡ x ∷ drop (i + 1) (shown n))
 next_first n i None h e = absurd (never_absent n i h e)
 next_first n i (Some x) h e = arc_first n i x e
+
+-- it is there
+pub arc_there : {C : Type 0} (n : Net C) (i : ℕ) (r : Option (Arc C)) → i < length n.arcs → r ≡ arc_at n (i + 1) → is_some r ≡ true
+arc_there n i None h e = absurd (never_absent n i h e)
+arc_there n i (Some x) h e = refl
 
 -- no arc is left, or no flow: what goes over both gives what it gives for none
 pub at_none : {X Y : Type 0} (F : List X → List ℤ → Y) (y : Y) → ((flow : List ℤ) → F [] flow ≡ y) → ((x : X) (xs : List X) → F (x ∷ xs) [] ≡ y) → (arcs : List X) (flow : List ℤ) → (arcs ≡ []) ⊎ (length flow ≡ 0) → F arcs flow ≡ y

@@ -1,7 +1,8 @@
 -- Which stop comes first: 1, 2, then arc by arc 3, 4, 7, 5, then 6 by node. A stop is told by its number and place.
 use Rattle.std.specs.Prelude.{ℕ, suc, Bool, cond, ◌&&◌, List, [], ◌∷◌, length, ℤ, Some, None, Option, ◌==◌, int_le, nat_le}
 use Rattle.networks.specs.declared.network.Arc.{Arc}
-use Rattle.networks.specs.Limits.{most_nodes, most_arcs, cost_limit, in_limits, bounds_fit}
+pub use Rattle.networks.specs.Limits.{counts_fit}
+use Rattle.networks.specs.Limits.{cost_limit, in_limits, bounds_fit}
 use Rattle.networks.specs.Answers.{Told}
 use Rattle.networks.specs.Nets.{Net, shown}
 use Rattle.flows.specs.Flows.{imbalance}
@@ -14,10 +15,6 @@ stop_unless test number place after = cond test after (Some (number, place))
 abbrev pub or_else : Option Told → Option Told → Option Told
 or_else None later = later
 or_else (Some s) later = Some s
-
--- there are 1 to 256 nodes and at most 1,024 arcs
-abbrev pub counts_fit : ℕ → ℕ → Bool
-counts_fit nodes arcs = nat_le 1 nodes && (nat_le nodes most_nodes && nat_le arcs most_arcs)
 
 -- both ends are nodes
 abbrev pub ends_fit : {C : Type 0} → ℕ → Arc C → Bool

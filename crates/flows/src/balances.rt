@@ -1,6 +1,7 @@
 // Imbalances: what leaves a node less what enters it.
 
 ghost use Rattle.std.specs.Prelude.{◌≡◌, ℕ, ◌+◌, ◌≤◌, length, pos, ◌+ℤ◌, ◌-ℤ◌, if◌then◌else◌, nat_eq, unsigned_abs};
+ghost use Rattle.networks.specs.Limits.{most_arcs};
 ghost use Rattle.networks.specs.Nets.{shown};
 ghost use Rattle.flows.specs.Fits.{Small};
 ghost use Rattle.flows.specs.Flows.{imbalance as imbalance_of, imbalances_from};
@@ -10,7 +11,7 @@ use networks::Network;
 
 // What leaves a node less what enters it.
 pub fn imbalance<N: Network>(net: &N, flow: &[i32], node: usize) -> i64
-    requires few { length flow.now ≤ 1024 }
+    requires few { length flow.now ≤ most_arcs }
     ensures { result ≡ imbalance_of (shown (N.meaning net.now)) flow.now node }
 {
     let mut sum: i64 = 0;
@@ -41,7 +42,7 @@ fn balanced(sum: i64, leaves: i64, enters: i64) -> i64
 
 // The imbalance of a node where no flow is beyond the limits, as a need.
 fn need<N: Network>(net: &N, flow: &[i32], node: usize) -> i32
-    requires few { length flow.now ≤ 1024 }
+    requires few { length flow.now ≤ most_arcs }
     requires small { Small flow.now }
     ensures { result ≡ imbalance_of (shown (N.meaning net.now)) flow.now node }
 {
@@ -50,7 +51,7 @@ fn need<N: Network>(net: &N, flow: &[i32], node: usize) -> i32
 
 // Writes the imbalance of node k + 1 at place k.
 pub fn imbalances<N: Network>(net: &N, flow: &[i32], needs: &mut [i32])
-    requires few { length flow.now ≤ 1024 }
+    requires few { length flow.now ≤ most_arcs }
     requires small { Small flow.now }
     ensures { needs.new ≡ imbalances_from 1 (length needs.old) (shown (N.meaning net.now)) flow.now }
 {

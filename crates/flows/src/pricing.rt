@@ -14,7 +14,7 @@ pub fn sum<C: CostKind>(a: C, b: C) -> C
     ensures value { result ≡ C.CostKind.kind.plus a b }
     ensures small { C.CostKind.kind.size result ≤ C.CostKind.kind.size a + C.CostKind.kind.size b }
 {
-    a.plus(b).unwrap_or(a)
+    a.plus(b).unwrap()
 }
 
 // The negative of a cost that is not large.
@@ -23,7 +23,7 @@ pub fn opposite<C: CostKind>(a: C) -> C
     ensures value { result ≡ C.CostKind.kind.neg a }
     ensures small { C.CostKind.kind.size result ≤ C.CostKind.kind.size a }
 {
-    a.negated().unwrap_or(a)
+    a.negated().unwrap()
 }
 
 // The price of a node.

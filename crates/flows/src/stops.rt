@@ -1,15 +1,15 @@
 // Which stop comes first: the checks that calls on a plan share.
 
 ghost use Rattle.std.specs.Prelude.{◌≡◌, ℕ, ◌≤◌, ◌&&◌, length, ℤ, None, int_le, nat_le};
-ghost use Rattle.networks.specs.Limits.{in_limits as in_limits_of};
+ghost use Rattle.networks.specs.Limits.{most_arcs, in_limits as in_limits_of};
 ghost use Rattle.networks.specs.Answers.{refusal};
 ghost use Rattle.networks.specs.Nets.{shown};
-ghost use Rattle.flows.specs.Stops.{counts_fit, stop_unless, arc_stop, arcs_stop, needs_stop, first_stop as first_stop_of, open_stop as open_stop_of, take_up_stop as take_up_stop_of};
+ghost use Rattle.flows.specs.Stops.{arc_stop, arcs_stop, needs_stop, first_stop as first_stop_of, open_stop as open_stop_of, take_up_stop as take_up_stop_of};
 
 use crate::arcs::arcs_of;
 use crate::balances::imbalance;
 use costs::CostKind;
-use networks::{Arc, Bounds, Network, Stop};
+use networks::{Arc, Bounds, COST_LIMIT, Network, Stop, check_counts};
 
 // Whether both ends of an arc are nodes.
 fn ends_fit(nodes: usize, from: usize, to: usize) -> bool
@@ -32,12 +32,10 @@ fn arc_fault<C: CostKind>(nodes: usize, a: usize, arc: Arc<C>, f: i32) -> Result
     if !ends_fit(nodes, arc.from, arc.to) {
         return Err(Stop::Ends(a));
     }
-    if arc.cost.size() > 1_000_000 {
+    if arc.cost.size() > COST_LIMIT {
         return Err(Stop::Cost(a));
     }
-    if arc.lo > arc.hi || !in_limits(arc.lo) || !in_limits(arc.hi) {
-        return Err(Stop::Bounds(a));
-    }
+    Bounds::new(arc.lo, arc.hi).or(Err(Stop::Bounds(a)))?;
     if !in_limits(f) {
         return Err(Stop::Flow(a));
     }
@@ -64,24 +62,13 @@ fn meets(balance: i64, need: i32) -> bool
 
 // The first node whose imbalance differs from its need.
 fn needs_fault<N: Network>(net: &N, flow: &[i32], needs: &[i32]) -> Result<(), Stop>
-    requires few { length flow.now ≤ 1024 }
+    requires few { length flow.now ≤ most_arcs }
     ensures { refusal result ≡ needs_stop (shown (N.meaning net.now)) flow.now 1 needs.now }
 {
     for (i, need) in needs.iter().enumerate() {
         if !meets(imbalance(net, flow, i + 1), *need) {
             return Err(Stop::Imbalance(i + 1));
         }
-    }
-    Ok(())
-}
-
-// Whether there are too few nodes, or too many nodes or arcs.
-fn counts_fault<N: Network>(net: &N) -> Result<(), Stop>
-    ensures { refusal result ≡ stop_unless (counts_fit (N.meaning net.now).nodes (length (N.meaning net.now).arcs)) 1 0 None }
-{
-    let nodes = net.nodes();
-    if !(1..=256).contains(&nodes) || net.arcs() > 1024 {
-        return Err(Stop::Counts);
     }
     Ok(())
 }
@@ -110,8 +97,8 @@ pub fn open_stop<N: Network>(
 ) -> Result<(), Stop>
     ensures { refusal result ≡ open_stop_of N.Cost.CostKind.kind.size (N.meaning net.now) flow.now (length needs.now) (length prices.now) (length marks.now) }
 {
-    counts_fault(net)?;
     let nodes = net.nodes();
+    check_counts(nodes, net.arcs())?;
     if flow.len() != net.arcs()
         || needs.len() != nodes
         || prices.len() != nodes
@@ -133,7 +120,7 @@ pub fn take_up_stop<N: Network>(
 ) -> Result<(), Stop>
     ensures { refusal result ≡ take_up_stop_of N.Cost.CostKind.kind.size (N.meaning net.now) own offered.now needs.now (length prices.now) (length marks.now) }
 {
-    counts_fault(net)?;
+    check_counts(net.nodes(), net.arcs())?;
     if own != net.arcs() {
         return Err(Stop::Lengths);
     }

@@ -2,7 +2,7 @@
 
 ghost use Rattle.std.specs.Prelude.{◌≡◌, ℕ, ◌*◌, ◌≤◌, length, Some, unsigned_abs};
 ghost use Rattle.costs.specs.Kinds.{sums};
-ghost use Rattle.networks.specs.Limits.{most_arcs};
+ghost use Rattle.networks.specs.Limits.{most_arcs, flow_limit, cost_limit};
 ghost use Rattle.networks.specs.Nets.{shown};
 ghost use Rattle.flows.specs.Fits.{Fitting, Small};
 ghost use Rattle.flows.specs.Flows.{added as added_to, running_total, total as total_of};
@@ -14,17 +14,17 @@ use networks::Network;
 
 // What an arc's flow costs, where neither is beyond the limits.
 fn multiple<C: CostKind>(cost: C, f: i32) -> C
-    requires cost { C.CostKind.kind.size cost ≤ 1000000 }
-    requires flow { unsigned_abs f ≤ 1000000 }
+    requires cost { C.CostKind.kind.size cost ≤ cost_limit }
+    requires flow { unsigned_abs f ≤ flow_limit }
     ensures value { result ≡ C.CostKind.kind.times f cost }
     ensures small { C.CostKind.kind.size result ≤ 1000000000000 }
 {
-    cost.times(f).unwrap_or(cost)
+    cost.times(f).unwrap()
 }
 
 // The sum of cost times flow.
 pub fn total<N: Network>(net: &N, flow: &[i32]) -> N::Cost
-    requires few { length flow.now ≤ 1024 }
+    requires few { length flow.now ≤ most_arcs }
     requires fitting { Fitting N.Cost.CostKind.kind (N.meaning net.now).nodes (shown (N.meaning net.now)) }
     requires small { Small flow.now }
     ensures { result ≡ total_of (sums N.Cost.CostKind.kind) (shown (N.meaning net.now)) flow.now }
@@ -50,9 +50,7 @@ pub fn checked_total<N: Network>(net: &N, flow: &[i32]) -> Option<N::Cost>
     ensures running { result ≡ running_total (sums N.Cost.CostKind.kind) N.Cost.CostKind.kind.zero (shown (N.meaning net.now)) flow.now }
     ensures within { length flow.now ≤ most_arcs → Fitting N.Cost.CostKind.kind (N.meaning net.now).nodes (shown (N.meaning net.now)) → Small flow.now → result ≡ Some (total_of (sums N.Cost.CostKind.kind) (shown (N.meaning net.now)) flow.now) }
 {
-    let mut all = N::Cost::zero();
-    for (arc, f) in arcs_of(net).zip(flow) {
-        all = added(all, arc.cost, *f)?;
-    }
-    Some(all)
+    arcs_of(net)
+        .zip(flow)
+        .try_fold(N::Cost::zero(), |all, (arc, f)| added(all, arc.cost, *f))
 }

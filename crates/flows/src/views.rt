@@ -36,10 +36,7 @@ impl<N: Network> View<'_, N> {
         ensures is { IsAt (shown (N.meaning self.now.net.now)) i result }
         ensures fit { Fit N.Cost.CostKind.kind (length self.now.prices.now) result }
     {
-        let Some(arc) = self.net.arc(i + 1) else {
-            unreachable!()
-        };
-        arc
+        self.net.arc(i + 1).unwrap()
     }
 
     // What is seen of the arc at a place.
