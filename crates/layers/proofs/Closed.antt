@@ -11,12 +11,13 @@ use Rattle.networks.specs.declared.bounds.Bounds.{Bounds}
 use Rattle.networks.specs.Limits.{most_nodes, most_arcs, cost_limit}
 use Rattle.networks.specs.Answers.{Told, unless}
 use Rattle.networks.specs.Nets.{Lock, Net, numbered, replaced, shown_arc, arc_at, held_stop, rebound_stop, with_bounds, rebounded, cost_stop, recost_stop, with_cost, recosted, lock_at, relocked, line_stop, take_out_stop, relined, taken, back_stop, hand_back_stop, handed_back}
+use Rattle.networks.proofs.Numbered.{item_at}
 use Rattle.networks.proofs.Shown.{unlocked}
 use Rattle.layers.specs.declared.entry.Entry.{Entry}
 use Rattle.layers.specs.declared.closing.Closing.{Closing}
 use Rattle.layers.specs.declared.closing.Part.{Part}
 use Rattle.layers.specs.Closings.{entry_arc, return_arc, within, closed_net, closing_stop, no_net, closing_net, is_lower, Lies}
-use Rattle.layers.proofs.Joined.{item_at, nth_left, nth_right, numbered_left, numbered_right, length_replaced, replaced_left, replaced_right}
+use Rattle.layers.proofs.Joined.{nth_left, nth_right, numbered_left, numbered_right, length_replaced, replaced_left, replaced_right}
 use Rattle.layers.proofs.Reach.{is_out_lower, line_lower, back_lower, is_out_upper, line_upper, back_upper, lock_through, with_through}
 
 past_unless : {X Y : Type 0} (F : X → Y) (s : Option Told) (x y : X) → F (unless s x y) ≡ unless s (F x) (F y)
@@ -153,7 +154,7 @@ module _ {N C : Type 0} (meaning : N → Net C) (zero : C) (over : Closing N C) 
 
     pub recost_entry : (a i : ℕ) (l : i < length es) (h : a ≡ count + (i + 1)) (size : C → ℕ) (d : C) → (Some (10, a) ≡ recost_stop size net a d) × (net ≡ recosted size net a d)
     recost_entry a i l h size d =
-        let s = ap (cost_stop size a d) (arc_entry a i l h (item_at es i l).0) in
+        let s = ap (cost_stop size a d) (arc_entry a i l h (item_at es i l)) in
         (s, ap (λ o. unless o net (amended net a (with_cost d))) s)
 
     -- ---- the return arc
