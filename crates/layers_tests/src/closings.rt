@@ -6,23 +6,21 @@ use makes::{ArcTable, Row};
 use networks::{Arc, Bounds, Lockout, Network, Stop, try_out};
 use std::test::Fail;
 
-const ROW: Row<Plain> = Row {
-    from: 1,
-    to: 2,
-    lo: 0,
-    hi: 5,
-    cost: Plain { units: 1 },
-};
+fn row() -> Row<Plain> {
+    Row::new(1, 2, 0, 5, Plain { units: 1 })
+}
 
-// The ends, the upper bound, the cost, and whether the cost is fixed.
-fn seen(found: Option<Arc<Plain>>) -> Option<(usize, usize, i32, i64, bool)> {
-    let x = found?;
-    Some((x.from, x.to, x.hi, x.cost.units, x.fixed))
+// The arc of an entry: it costs nothing, and its cost is fixed.
+fn entry(from: usize, to: usize, lo: i32, hi: i32) -> Arc<Plain> {
+    Arc {
+        fixed: true,
+        ..Arc::free(from, to, lo, hi, Plain { units: 0 })
+    }
 }
 
 #[test]
 fn arcs_in_their_order(rt: HostRuntime) -> Result<(), Fail> {
-    let mut rows = [ROW];
+    let mut rows = [row()];
     let table = ArcTable::new(2, 1, &mut rows);
     assert_eq!(rt; Closing::check(&table), Ok(()));
     let back = Bounds::new(0, 1_000_000)?;
@@ -30,18 +28,20 @@ fn arcs_in_their_order(rt: HostRuntime) -> Result<(), Fail> {
     assert_eq!(rt; net.supply(1, Bounds::new(0, 9)?), Ok(()));
     assert_eq!(rt; net.demand(2, Bounds::new(0, 4)?), Ok(()));
     assert_eq!(rt; (net.nodes(), net.arcs()), (4, 4));
-    assert_eq!(rt; seen(net.arc(0)), None);
-    assert_eq!(rt; seen(net.arc(1)), Some((1, 2, 5, 1, false)));
-    assert_eq!(rt; seen(net.arc(2)), Some((4, 1, 9, 0, true)));
-    assert_eq!(rt; seen(net.arc(3)), Some((2, 3, 4, 0, true)));
-    assert_eq!(rt; seen(net.arc(4)), Some((3, 4, 1_000_000, -10, false)));
-    assert_eq!(rt; seen(net.arc(5)), None);
+    let lower = Arc::free(1, 2, 0, 5, Plain { units: 1 });
+    let return_arc = Arc::free(3, 4, 0, 1_000_000, Plain { units: -10 });
+    assert_eq!(rt; net.arc(0), None);
+    assert_eq!(rt; net.arc(1), Some(lower));
+    assert_eq!(rt; net.arc(2), Some(entry(4, 1, 0, 9)));
+    assert_eq!(rt; net.arc(3), Some(entry(2, 3, 0, 4)));
+    assert_eq!(rt; net.arc(4), Some(return_arc));
+    assert_eq!(rt; net.arc(5), None);
     Ok(())
 }
 
 #[test]
 fn amended_arcs(rt: HostRuntime) -> Result<(), Fail> {
-    let mut rows = [ROW];
+    let mut rows = [row()];
     let back = Bounds::new(0, 8)?;
     let mut net = Closing::new(ArcTable::new(2, 1, &mut rows), back, Plain { units: 0 });
     assert_eq!(rt; net.demand(1, back), Ok(()));
@@ -57,15 +57,17 @@ fn amended_arcs(rt: HostRuntime) -> Result<(), Fail> {
         Err(Stop::Cost(3))
     );
     assert_eq!(rt; net.recost(3, Plain { units: -9 }), Ok(()));
-    assert_eq!(rt; seen(net.arc(1)), Some((1, 2, 3, 7, false)));
-    assert_eq!(rt; seen(net.arc(2)), Some((1, 3, 3, 0, true)));
-    assert_eq!(rt; seen(net.arc(3)), Some((3, 4, 3, -9, false)));
+    let lower = Arc::free(1, 2, 1, 3, Plain { units: 7 });
+    let return_arc = Arc::free(3, 4, 1, 3, Plain { units: -9 });
+    assert_eq!(rt; net.arc(1), Some(lower));
+    assert_eq!(rt; net.arc(2), Some(entry(1, 3, 1, 3)));
+    assert_eq!(rt; net.arc(3), Some(return_arc));
     Ok(())
 }
 
 #[test]
 fn refused_entries(rt: HostRuntime) -> Result<(), Fail> {
-    let mut rows = [ROW];
+    let mut rows = [row()];
     let b = Bounds::new(0, 1)?;
     let mut net = Closing::new(ArcTable::new(2, 1, &mut rows), b, Plain { units: 0 });
     assert_eq!(rt; net.supply(0, b), Err(Stop::Absent(0)));
@@ -82,11 +84,11 @@ fn refused_entries(rt: HostRuntime) -> Result<(), Fail> {
 #[test]
 fn too_many_arcs(rt: HostRuntime) -> Result<(), Fail> {
     let b = Bounds::new(0, 1)?;
-    let mut rows = [ROW; 1023];
+    let mut rows = [row(); 1023];
     let mut net = Closing::new(ArcTable::new(2, 1023, &mut rows), b, Plain { units: 0 });
     assert_eq!(rt; net.supply(1, b), Err(Stop::Counts));
     assert_eq!(rt; net.arcs(), 1024);
-    let mut more = [ROW; 1024];
+    let mut more = [row(); 1024];
     let table = ArcTable::new(2, 1024, &mut more);
     assert_eq!(rt; Closing::check(&table), Err(Stop::Counts));
     let mut unfit = Closing::new(Lockout::new(table), b, Plain { units: 0 });
@@ -98,7 +100,7 @@ fn too_many_arcs(rt: HostRuntime) -> Result<(), Fail> {
 
 #[test]
 fn closing_in_a_pile(rt: HostRuntime) -> Result<(), Fail> {
-    let mut rows = [ROW];
+    let mut rows = [row()];
     let b = Bounds::new(0, 6)?;
     let mut net = Closing::new(
         Lockout::new(ArcTable::new(2, 1, &mut rows)),

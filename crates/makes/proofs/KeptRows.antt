@@ -1,16 +1,21 @@
 -- A network that is kept in rows: what it shows of a row, and what is left when one row is rewritten.
-use Rattle.std.proofs.Common.{◌≡◌, ℕ, ◌+◌, ◌-◌, ◌<◌, ◌≤◌, Bool, true, false, cond, leb, List, length, get_or, set, ℤ, Some, None, Option, sym, ap, ◌∙◌, subst, arith}
-use Rattle.std.specs.Option.{option_map}
+use Rattle.std.proofs.Common.{◌≡◌, ℕ, ◌+◌, ◌-◌, ◌<◌, ◌≤◌, Bool, true, false, cond, leb, List, length, get_or, set, ℤ, Some, None, Err, Option, sym, ap, ap₂, ◌∙◌, subst, arith}
+use Rattle.std.specs.List.{slice_get}
+use Rattle.std.specs.Option.{option_map, ok_or}
 use Rattle.std.proofs.lemmas.Option.{slice_get-get_or}
 use Rattle.std.proofs.lemmas.Bool.{le-leb, lt-leb}
 use Rattle.networks.specs.declared.network.Arc.{Arc}
+use Rattle.networks.specs.declared.stops.Stop.{Stop}
+use Rattle.networks.specs.declared.stops.Stop.TheVariants.{Absent}
+use Rattle.networks.specs.Stops.{told}
 use Rattle.networks.specs.Limits.{cost_limit}
 use Rattle.networks.specs.Answers.{Told, unless}
-use Rattle.networks.specs.Nets.{Net, numbered, replaced, is_out, shown_arc, arc_at, held_stop, rebound_stop, with_bounds, rebounded, cost_stop, recost_stop, with_cost, recosted}
-use Rattle.networks.proofs.Numbered.{numbered_next}
+use Rattle.networks.specs.Nets.{Net, numbered, replaced, shown_arc, arc_at, held_stop, rebound_stop, with_bounds, rebounded, cost_stop, recost_stop, with_cost, recosted}
+use Rattle.networks.proofs.Numbered.{numbered_next, item_at, nth_mapped, set_mapped, length_mapped}
 use Rattle.networks.proofs.Shown.{unlocked}
-use Rattle.makes.specs.Bases.{base_net, arcs_from, place_of}
-use Rattle.makes.proofs.Counted.{no_place, a_place, some_row, nth_from, set_from, length_from}
+use Rattle.makes.specs.declared.kept.Kept.{Kept}
+use Rattle.makes.specs.Bases.{base_net, arcs_from, place_of, kept_net}
+use Rattle.makes.proofs.Counted.{no_place, a_place, absent}
 
 -- ---- any network
 
@@ -20,17 +25,6 @@ module _ {C : Type 0} (n : Net C) (a : ℕ) where
 
   cost_refused : (size : C → ℕ) (c : C) (s : Told) → Some s ≡ recost_stop size n a c → n ≡ recosted size n a c
   cost_refused size c s e = ap (λ o. unless o n (record { nodes = n.nodes; arcs = replaced n.arcs a (option_map (with_cost c) (numbered n.arcs a)); locks = n.locks })) e
-
--- a number with no place among its arcs
-module _ {C : Type 0} (n : Net C) (a : ℕ) {count : ℕ} (e : count ≡ length n.arcs) (h : None ≡ place_of count a) where
-  pub arc_absent : None ≡ arc_at n a
-  arc_absent = ap (option_map (shown_arc (is_out n.locks a))) (no_place n.arcs a (h ∙ ap (λ m. place_of m a) e))
-
-  pub rebound_absent : (lo hi : ℤ) → (Some (8, a) ≡ rebound_stop n a) × (n ≡ rebounded n a lo hi)
-  rebound_absent lo hi = let s : Some (8, a) ≡ rebound_stop n a = ap (held_stop a) arc_absent in (s, bounds_refused n a lo hi (8, a) s)
-
-  pub recost_absent : (size : C → ℕ) (c : C) → (Some (8, a) ≡ recost_stop size n a c) × (n ≡ recosted size n a c)
-  recost_absent size c = let s : Some (8, a) ≡ recost_stop size n a c = ap (cost_stop size a c) arc_absent in (s, cost_refused n a size c (8, a) s)
 
 -- ---- one with no lock-out
 
@@ -62,9 +56,27 @@ module _ {C : Type 0} (nodes : ℕ) (arcs : List (Arc C)) (a : ℕ) where
 
 -- ---- one that is kept in rows, each an arc by its number
 
--- a number with no place is that of no row
-pub no_row : {R C : Type 0} (f : ℕ → R → Arc C) (rows : List R) (a : ℕ) → None ≡ place_of (length rows) a → None ≡ place_of (length (arcs_from f 1 rows)) a
-no_row f rows a h = h ∙ ap (λ m. place_of m a) (sym (length_from f 1 rows))
+-- a number with no place
+module _ {R C : Type 0} (f : ℕ → ℕ → R → Arc C) (t : Kept R) (a : ℕ) where
+  abbrev whole : Net C
+  whole = kept_net f t
+
+  pub arc_absent : None ≡ place_of (length t.rows.now) a → None ≡ arc_at whole a
+  arc_absent h = ap (option_map (shown_arc false)) (no_place whole.arcs a (h ∙ ap (λ m. place_of m a) (sym (length_mapped (f t.nodes) 1 t.rows.now))))
+
+  -- the stop that tells it, and the network as it was
+  module _ (s : Stop) (e : Err s ≡ ok_or (place_of (length t.rows.now) a) (Absent a)) where
+    there : None ≡ arc_at whole a
+    there = arc_absent (absent (place_of (length t.rows.now) a) a s e).0
+
+    tells : Some (told s) ≡ Some (8, a)
+    tells = ap (λ z. Some (told z)) (absent (place_of (length t.rows.now) a) a s e).1
+
+    pub rebound_absent : (lo hi : ℤ) → (Some (told s) ≡ rebound_stop whole a) × (whole ≡ rebounded whole a lo hi)
+    rebound_absent lo hi = let z : Some (8, a) ≡ rebound_stop whole a = ap (held_stop a) there in (tells ∙ z, bounds_refused whole a lo hi (8, a) z)
+
+    pub recost_absent : (size : C → ℕ) (c : C) → (Some (told s) ≡ recost_stop size whole a c) × (whole ≡ recosted size whole a c)
+    recost_absent size c = let z : Some (8, a) ≡ recost_stop size whole a c = ap (cost_stop size a c) there in (tells ∙ z, cost_refused whole a size c (8, a) z)
 
 -- arc a has its row at place i
 module _ {R C : Type 0} (f : ℕ → R → Arc C) (nodes : ℕ) (rows : List R) (a i : ℕ) (p : Some i ≡ place_of (length rows) a) where
@@ -81,13 +93,14 @@ module _ {R C : Type 0} (f : ℕ → R → Arc C) (nodes : ℕ) (rows : List R) 
   abbrev row : R → R
   row d = get_or rows i d
 
+  number : 1 + i ≡ a
+  number = omega (arith, placed)
+
   reads : (d : R) → Some (f a (row d)) ≡ numbered (build rows) a
-  reads d = subst (λ (m : ℕ). Some (f m (row d)) ≡ numbered (build rows) m) placed.0 (sym (numbered_next (build rows) i ∙ nth_from f rows i ∙ ap (option_map (f (i + 1))) (slice_get-get_or rows i d placed.1)))
+  reads d = sym (subst (λ (m : ℕ). numbered (build rows) m ≡ slice_get (build rows) i) placed.0 (numbered_next (build rows) i) ∙ nth_mapped f 1 rows i ∙ ap (option_map (f (1 + i))) (slice_get-get_or rows i d placed.1) ∙ ap (λ m. Some (f m (row d))) number)
 
   writes : (v : R) → build (set rows i v) ≡ set (build rows) (a - 1) (f a v)
-  writes v =
-      let e : i ≡ i + 1 - 1 = omega arith in
-      subst (λ (m : ℕ). build (set rows i v) ≡ set (build rows) (m - 1) (f m v)) placed.0 (set_from f rows i v ∙ ap (λ j. set (build rows) j (f (i + 1) v)) e)
+  writes v = let e : i ≡ a - 1 = omega (arith, placed) in set_mapped f 1 rows i v ∙ ap₂ (λ j m. set (build rows) j (f m v)) e number
 
   pub arc_there : (d : R) → Some (f (i + 1) (row d)) ≡ arc_at (made rows) a
   arc_there d = subst (λ (m : ℕ). Some (f m (row d)) ≡ arc_at (made rows) a) (sym placed.0) (base_arc nodes (build rows) a (Some (f a (row d))) (reads d))
@@ -108,7 +121,7 @@ module _ {R C : Type 0} (f : ℕ → R → Arc C) (nodes : ℕ) (rows : List R) 
     stop_there d t q = cost_tested nodes (build rows) a size c (f a (row d)) t (reads d) (loose (row d)) q
 
     pub recost_large : cost_limit < size c → Some (4, a) ≡ recost_stop size (made rows) a c
-    recost_large l = stop_there (some_row rows i placed.1) false (lt-leb (size c) cost_limit l)
+    recost_large l = stop_there (item_at rows i placed.1) false (lt-leb (size c) cost_limit l)
 
     module _ (l : size c ≤ cost_limit) where
       pub recost_granted : (d : R) → None ≡ recost_stop size (made rows) a c

@@ -1,7 +1,7 @@
 -- Networks that stand on no other: they are kept in rows, and have no lock-out.
-use Rattle.std.specs.Prelude.{ℕ, suc, ◌-◌, cond, ◌||◌, List, [], ◌∷◌, Some, None, Option, ◌==◌, nat_lt}
+use Rattle.std.specs.Prelude.{ℕ, ◌-◌, cond, ◌||◌, List, [], Some, None, Option, ◌==◌, nat_lt}
 use Rattle.networks.specs.declared.network.Arc.{Arc}
-use Rattle.networks.specs.Nets.{Net}
+use Rattle.networks.specs.Nets.{Net, mapped_from}
 use Rattle.makes.specs.declared.kept.Kept.{Kept}
 
 -- so many nodes and these arcs
@@ -14,8 +14,7 @@ unfit_net = base_net 0 []
 
 -- each row turned into an arc by its number, the first of number k
 abbrev pub arcs_from : {R C : Type 0} → (ℕ → R → Arc C) → ℕ → List R → List (Arc C)
-arcs_from f k [] = []
-arcs_from f k (r ∷ rest) = f k r ∷ arcs_from f (suc k) rest
+arcs_from f k rows = mapped_from f k rows
 
 -- the place, counted from 0, of the a-th of so many
 abbrev pub place_of : ℕ → ℕ → Option ℕ

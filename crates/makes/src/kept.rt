@@ -1,10 +1,12 @@
 // A network that is kept in lent rows, whatever its rows are: the arc table is one, and so is the hour chain.
 
-ghost use Rattle.std.specs.Prelude.{◌≡◌, ℕ, ◌+◌, false, []};
+ghost use Rattle.std.specs.Prelude.{◌≡◌, ℕ, ◌+◌, false, [], length};
+ghost use Rattle.std.specs.Option.{ok_or};
 ghost use Rattle.networks.specs.declared.network.Arc.{Arc};
+ghost use Rattle.networks.specs.declared.stops.Stop.TheVariants.{Absent};
 ghost use Rattle.networks.specs.Answers.{refusal, unless};
 ghost use Rattle.networks.specs.Nets.{with_bounds, with_cost};
-ghost use Rattle.makes.specs.Bases.{kept_of, kept_net};
+ghost use Rattle.makes.specs.Bases.{place_of as place_of_number, kept_of, kept_net};
 
 use crate::place_of;
 use costs::CostKind;
@@ -54,6 +56,15 @@ impl<'a, R> Kept<'a, R> {
     }
 }
 
+impl<R> Kept<'_, R> {
+    // The place, counted from 0, of row a.
+    fn place(&self, a: usize) -> Result<usize, Stop>
+        ensures { result ≡ ok_or (place_of_number (length self.now.rows.now) a) (Absent a) }
+    {
+        place_of(self.rows.len(), a).ok_or(Stop::Absent(a))
+    }
+}
+
 impl<R: ArcRow> Network for Kept<'_, R> {
     type Cost = R::Cost;
 
@@ -77,13 +88,13 @@ impl<R: ArcRow> Network for Kept<'_, R> {
     }
 
     fn rebound(&mut self, a: usize, b: Bounds) -> Result<(), Stop> {
-        let i = place_of(self.rows.len(), a).ok_or(Stop::Absent(a))?;
+        let i = self.place(a)?;
         self.rows[i] = self.rows[i].rebound(b);
         Ok(())
     }
 
     fn recost(&mut self, a: usize, c: R::Cost) -> Result<(), Stop> {
-        let i = place_of(self.rows.len(), a).ok_or(Stop::Absent(a))?;
+        let i = self.place(a)?;
         if c.size() > COST_LIMIT {
             return Err(Stop::Cost(a));
         }

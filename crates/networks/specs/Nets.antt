@@ -22,6 +22,11 @@ pub record Net (C : Type 0) : Type 0 where
 abbrev pub numbered : {X : Type 0} → List X → ℕ → Option X
 numbered xs a = cond (a == 0) None (slice_get xs (a - 1))
 
+-- each item of a list turned into another by its number, the first of number k
+abbrev pub mapped_from : {X Y : Type 0} → (ℕ → X → Y) → ℕ → List X → List Y
+mapped_from f k [] = []
+mapped_from f k (x ∷ rest) = f k x ∷ mapped_from f (suc k) rest
+
 -- x stands at place i, counted from 0
 abbrev pub IsAt : {X : Type 0} → List X → ℕ → X → Type 0
 IsAt xs i x = (i < length xs) × (x ≡ slice_index_or xs i x)
@@ -69,8 +74,7 @@ arc_at n a = option_map (shown_arc (is_out n.locks a)) (numbered n.arcs a)
 
 -- all arcs from number k on, as they show
 abbrev pub shown_from : {C : Type 0} → ℕ → List Lock → List (Arc C) → List (Arc C)
-shown_from k locks [] = []
-shown_from k locks (x ∷ rest) = shown_arc (is_out locks k) x ∷ shown_from (suc k) locks rest
+shown_from k locks arcs = mapped_from (λ a. shown_arc (is_out locks a)) k arcs
 
 abbrev pub shown : {C : Type 0} → Net C → List (Arc C)
 shown n = shown_from 1 n.locks n.arcs

@@ -1,12 +1,11 @@
-use Rattle.std.proofs.Common.{Some, refl, ap, ◌∙◌}
-use Rattle.makes.specs.Bases.{kept_net}
-use Rattle.makes.proofs.KeptRows.{no_row, arc_absent, arc_there}
+use Rattle.std.proofs.Common.{Some, ap, ◌∙◌}
+use Rattle.makes.proofs.KeptRows.{arc_absent, arc_there}
 use Rattle.makes.proofs.kept.KeptNetwork.arc.Goals as goal
 
 pub returns-in_err-i : goal.returns-in_err-i
 returns-in_err-i g c =
     let t = c.args.self.now in
-    c.from_residual.ensures ∙ arc_absent (kept_net g.R.ArcRow.arc_of t) c.args.a refl (no_row (g.R.ArcRow.arc_of t.nodes) t.rows.now c.args.a c.in_err-i.ensures)
+    c.from_residual.ensures ∙ arc_absent g.R.ArcRow.arc_of t c.args.a c.in_err-i.ensures
 
 pub returns : goal.returns
 returns g c =

@@ -1,6 +1,6 @@
 use Rattle.std.proofs.Common.{rules}
-use Rattle.makes.proofs.Counted.{length_from}
+use Rattle.networks.proofs.Numbered.{length_mapped}
 use Rattle.makes.proofs.kept.KeptNetwork.arcs.Goals as goal
 
 pub returns : goal.returns
-returns g c = search (rules, length_from)
+returns g c = search (rules, length_mapped)
