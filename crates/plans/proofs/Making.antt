@@ -4,7 +4,7 @@ use Rattle.std.specs.Option.{option_map}
 use Rattle.std.proofs.lemmas.List.{length-set, drop-set-lt, drop-drop, get_or_default}
 use Rattle.costs.specs.Kinds.{Kind, Laws}
 use Rattle.networks.specs.declared.stops.Stop.{Stop}
-use Rattle.networks.specs.Answers.{Told, answer, said, unless}
+use Rattle.networks.specs.Answers.{Told, refusal, unless}
 use Rattle.networks.specs.Nets.{Net}
 use Rattle.flows.specs.Settles.{Tables}
 use Rattle.runs.specs.declared.calls.Call.{Call}
@@ -39,19 +39,19 @@ module _ {C : Type 0} (K : Kind C) (n m due : Net C) (t : Tables C) (places afte
   abbrev there : State C
   there = record { net = m; tables = t }
 
-  ring : (x : Result (Unit {0}) Stop) → said x ≡ answer s tt → after ≡ unless s places put → after ≡ cond (is_granted (done_came {C = C} x)) (retagged places c) places
+  ring : (x : Result (Unit {0}) Stop) → refusal x ≡ s → after ≡ unless s places put → after ≡ cond (is_granted (done_came {C = C} x)) (retagged places c) places
   ring x so left = go s x so left
     where
-      go : (z : Option Told) (y : Result (Unit {0}) Stop) → said y ≡ answer z tt → after ≡ unless z places put → after ≡ cond (is_granted (done_came {C = C} y)) (retagged places c) places
+      go : (z : Option Told) (y : Result (Unit {0}) Stop) → refusal y ≡ z → after ≡ unless z places put → after ≡ cond (is_granted (done_came {C = C} y)) (retagged places c) places
       go None (Ok u) e l = l ∙ sym put_is
       go (Some f) (Ok u) e l = absurd cc
       go None (Err f) e l = absurd cc
       go (Some f) (Err g) e l = l
 
-  pub ring_makes : (b : Bool) (r : Option (Result (Unit {0}) Stop)) (o : Option (Outcome C)) → option_map came o ≡ option_map done_came r → option_map said r ≡ cond b (Some (answer s tt)) None →
-      m ≡ cond b due n → after ≡ cond b (unless s places put) places → (b ≡ false → ShortOfTags places c) → ((x : Result (Unit {0}) Stop) → said x ≡ answer s tt → m ≡ due → Keeps K here (event c (done_came x)) there) → Makes K here places c o there after
+  pub ring_makes : (b : Bool) (r : Option (Result (Unit {0}) Stop)) (o : Option (Outcome C)) → option_map came o ≡ option_map done_came r → option_map refusal r ≡ cond b (Some s) None →
+      m ≡ cond b due n → after ≡ cond b (unless s places put) places → (b ≡ false → ShortOfTags places c) → ((x : Result (Unit {0}) Stop) → refusal x ≡ s → m ≡ due → Keeps K here (event c (done_came x)) there) → Makes K here places c o there after
   ring_makes true (Some x) (Some y) came-so said-so net-is ring-is short keeps =
-      let so : said x ≡ answer s tt = cc in
+      let so : refusal x ≡ s = cc in
       let is : came y ≡ done_came x = cc in
       (subst (λ z. Keeps K here (event c z) there) (sym is) (keeps x so net-is), ring x so ring-is ∙ ap (λ z. cond (is_granted z) (retagged places c) places) (sym is))
   ring_makes true (Some x) None came-so said-so net-is ring-is short keeps = absurd cc

@@ -1,15 +1,15 @@
 -- What is known where no stop keeps a plan from being opened.
-use Rattle.std.proofs.Common.{◌≡◌, ℕ, ◌≤◌, Bool, true, false, ◌&&◌, eqb, leb, List, length, ℤ, Some, None, Ok, Err, Option, Result, sym, refl, ap, ◌∙◌, subst, arith}
+use Rattle.std.proofs.Common.{◌≡◌, ℕ, ◌≤◌, ◌&&◌, eqb, leb, List, length, ℤ, Some, None, Ok, Err, Result, sym, refl, ap, ◌∙◌, subst}
 use Rattle.std.proofs.lemmas.Bool.{and_parts, eqb-true, leb-true}
 use Rattle.costs.specs.Kinds.{Kind}
 use Rattle.networks.specs.declared.stops.Stop.{Stop}
-use Rattle.networks.specs.Answers.{Told, answer, unless}
+use Rattle.networks.specs.Answers.{Told, unless}
 use Rattle.networks.specs.Nets.{Net, shown}
 use Rattle.networks.proofs.Shown.{length_shown}
 use Rattle.flows.specs.Flows.{imbalances_from}
 use Rattle.flows.specs.Fits.{Small}
-use Rattle.flows.specs.Stops.{stop_unless, or_else, counts_fit, lengths_fit, arcs_stop, open_stop}
-use Rattle.flows.proofs.Fitted.{small}
+use Rattle.flows.specs.Stops.{counts_fit, lengths_fit, arcs_stop, open_stop}
+use Rattle.flows.proofs.Fitted.{passed, neither, small}
 use Rattle.flows.proofs.Needing.{imbalances_long}
 use Rattle.runs.specs.States.{State, opening_stop, opened, with_needs, New}
 
@@ -18,14 +18,6 @@ pub record Opens {C : Type 0} (n : Net C) (flow : List ℤ) (needs : ℕ) : Type
   pub flow_long : length flow ≡ length n.arcs
   pub needs_long : needs ≡ n.nodes
   pub small_flow : Small flow
-
-passed : (b : Bool) (n k : ℕ) (later : Option Told) → stop_unless b n k later ≡ None → (b ≡ true) × (later ≡ None)
-passed true n k later e = (refl, e)
-passed false n k later e = absurd cc
-
-first_passed : (o : Option Told) → or_else o None ≡ None → o ≡ None
-first_passed None e = refl
-first_passed (Some s) e = absurd cc
 
 pub opens : {C : Type 0} (K : Kind C) (n : Net C) (flow : List ℤ) (needs prices marks : ℕ) → open_stop K.size n flow needs prices marks ≡ None → Opens n flow needs
 opens K n flow needs prices marks e =
@@ -40,7 +32,7 @@ opens K n flow needs prices marks e =
       few_arcs = leb-true (length n.arcs) 1024 q.1;
       flow_long = long;
       needs_long = eqb-true needs n.nodes s.0;
-      small_flow = small K n.nodes 1 (shown n) flow (long ∙ sym (length_shown n)) (first_passed (arcs_stop K.size n.nodes 1 (shown n) flow) b.1);
+      small_flow = small K n.nodes 1 (shown n) flow (long ∙ sym (length_shown n)) (neither (arcs_stop K.size n.nodes 1 (shown n) flow) None b.1).0;
     }
 
 -- once opened, a plan is new
@@ -67,18 +59,5 @@ module _ {C : Type 0} (K : Kind C) (p : State C) where
   pub open_refused : (s : Told) → Some s ≡ opening_stop K p → p ≡ unless (opening_stop K p) p (opened p)
   open_refused s stop = ap (λ o. unless o p (opened p)) stop
 
--- an answer that is due for a stop
-pub due_answer : (s z : Option Told) → s ≡ z → answer {X = Unit {0}} s tt ≡ answer {X = Unit {0}} z tt
-due_answer s z e = ap (λ o. answer {X = Unit {0}} o tt) e
-
 pub never_ok : (s : Stop) → ◌≡◌ {A = Result (Unit {0}) Stop} (Err s) (Ok tt) → ⊥
 never_ok s e = cc
-
--- what an answer says of the stop
-pub refused_by : (s : Option Told) (t : Told) → Err t ≡ answer {X = Unit {0}} s tt → s ≡ Some t
-refused_by None t e = absurd cc
-refused_by (Some s) t e = let h : s ≡ t = cc in ap Some h
-
-pub granted_by : (s : Option Told) (u : Unit {0}) → Ok u ≡ answer {X = Unit {0}} s tt → s ≡ None
-granted_by None u e = refl
-granted_by (Some s) u e = absurd cc

@@ -1,5 +1,5 @@
 -- A call whose answer and whose effect are equations takes its step, and keeps the law.
-use Rattle.std.proofs.Common.{◌≡◌, ℕ, List, ℤ, Some, None, Ok, Err, Option, Result, sym, refl, ap, ◌∙◌, subst, arith}
+use Rattle.std.proofs.Common.{◌≡◌, ℕ, List, ℤ, Some, None, Ok, Err, Option, Result, sym, refl, ap, ◌∙◌, subst}
 use Rattle.costs.specs.Kinds.{Kind, Laws}
 use Rattle.networks.specs.declared.stops.Stop.{Stop}
 use Rattle.networks.specs.declared.tags.Tag.{Tag}
@@ -20,11 +20,12 @@ abbrev due_came : {C : Type 0} → Option Told → Came C
 due_came None = done
 due_came (Some s) = refused s
 
-pub done_due : {C X : Type 0} (r : Result X Stop) (s : Option Told) (x : X) → said r ≡ answer s x → done_came {C = C} r ≡ due_came s
-done_due (Ok y) None x e = refl
-done_due (Ok y) (Some s) x e = absurd cc
-done_due (Err t) None x e = absurd cc
-done_due {C} {X} (Err t) (Some s) x e = let h : told t ≡ s = cc in ap refused h
+done_due : {C X : Type 0} (r : Result X Stop) (s : Option Told) → refusal r ≡ s → done_came {C = C} r ≡ due_came s
+done_due {C} r s e = by_refusal r ∙ ap (due_came {C = C}) e
+  where
+    by_refusal : {X : Type 0} (r : Result X Stop) → done_came {C = C} r ≡ due_came (refusal r)
+    by_refusal (Ok y) = refl
+    by_refusal (Err t) = refl
 
 tagged_due : {C : Type 0} (r : Result Tag Stop) (s : Option Told) (a : ℕ) → said (tagged r) ≡ answer s a → done_came {C = C} r ≡ due_came s
 tagged_due (Ok y) None a e = refl
@@ -80,11 +81,11 @@ module _ {C : Type 0} (K : Kind C) (laws : Laws K) where
       whole None = refl
       whole (Some x) = refl
 
-  pub rebound_keeps : (n m : Net C) (a : ℕ) (lo hi : ℤ) (r : Result (Unit {0}) Stop) → said r ≡ answer (rebound_stop n a) tt → m ≡ rebounded n a lo hi → KeepsTables K n (event (rebound a lo hi) (done_came r)) m
-  rebound_keeps n m a lo hi r said-so left t = on_net n m _ (rebound_stop n a) (rebound a lo hi) (done_came r) t refl (λ z e. (refl, e)) (done_due r (rebound_stop n a) tt said-so) left
+  pub rebound_keeps : (n m : Net C) (a : ℕ) (lo hi : ℤ) (r : Result (Unit {0}) Stop) → refusal r ≡ rebound_stop n a → m ≡ rebounded n a lo hi → KeepsTables K n (event (rebound a lo hi) (done_came r)) m
+  rebound_keeps n m a lo hi r said-so left t = on_net n m _ (rebound_stop n a) (rebound a lo hi) (done_came r) t refl (λ z e. (refl, e)) (done_due r (rebound_stop n a) said-so) left
 
-  pub recost_keeps : (n m : Net C) (a : ℕ) (c : C) (r : Result (Unit {0}) Stop) → said r ≡ answer (recost_stop K.size n a c) tt → m ≡ recosted K.size n a c → KeepsTables K n (event (recost a c) (done_came r)) m
-  recost_keeps n m a c r said-so left t = on_net n m _ (recost_stop K.size n a c) (recost a c) (done_came r) t refl (λ z e. (refl, e)) (done_due r (recost_stop K.size n a c) tt said-so) left
+  pub recost_keeps : (n m : Net C) (a : ℕ) (c : C) (r : Result (Unit {0}) Stop) → refusal r ≡ recost_stop K.size n a c → m ≡ recosted K.size n a c → KeepsTables K n (event (recost a c) (done_came r)) m
+  recost_keeps n m a c r said-so left t = on_net n m _ (recost_stop K.size n a c) (recost a c) (done_came r) t refl (λ z e. (refl, e)) (done_due r (recost_stop K.size n a c) said-so) left
 
   pub take_out_keeps : (n m : Net C) (l a : ℕ) (r : Result Tag Stop) → said (tagged r) ≡ answer (take_out_stop n l a) a → m ≡ taken n l a → KeepsTables K n (event (take_out l a) (done_came r)) m
   take_out_keeps n m l a r said-so left t = on_net n m _ (take_out_stop n l a) (take_out l a) (done_came r) t refl (λ z e. (refl, e)) (tagged_due r (take_out_stop n l a) a said-so) left
@@ -93,11 +94,11 @@ module _ {C : Type 0} (K : Kind C) (laws : Laws K) where
   hand_back_keeps n m l tag r said-so left t = on_net n m _ (hand_back_stop n l tag.arc) (hand_back l tag.arc) (back_came r) t refl (λ z e. (refl, e)) (back_due r (hand_back_stop n l tag.arc) tag said-so) left
 
   -- the same two through a ring of tags, where the answer has no tag
-  pub ring_take_out_keeps : (n m : Net C) (l a : ℕ) (r : Result (Unit {0}) Stop) → said r ≡ answer (take_out_stop n l a) tt → m ≡ taken n l a → KeepsTables K n (event (take_out l a) (done_came r)) m
-  ring_take_out_keeps n m l a r said-so left t = on_net n m _ (take_out_stop n l a) (take_out l a) (done_came r) t refl (λ z e. (refl, e)) (done_due r (take_out_stop n l a) tt said-so) left
+  pub ring_take_out_keeps : (n m : Net C) (l a : ℕ) (r : Result (Unit {0}) Stop) → refusal r ≡ take_out_stop n l a → m ≡ taken n l a → KeepsTables K n (event (take_out l a) (done_came r)) m
+  ring_take_out_keeps n m l a r said-so left t = on_net n m _ (take_out_stop n l a) (take_out l a) (done_came r) t refl (λ z e. (refl, e)) (done_due r (take_out_stop n l a) said-so) left
 
-  pub ring_hand_back_keeps : (n m : Net C) (l a : ℕ) (r : Result (Unit {0}) Stop) → said r ≡ answer (hand_back_stop n l a) tt → m ≡ handed_back n l a → KeepsTables K n (event (hand_back l a) (done_came r)) m
-  ring_hand_back_keeps n m l a r said-so left t = on_net n m _ (hand_back_stop n l a) (hand_back l a) (done_came r) t refl (λ z e. (refl, e)) (done_due r (hand_back_stop n l a) tt said-so) left
+  pub ring_hand_back_keeps : (n m : Net C) (l a : ℕ) (r : Result (Unit {0}) Stop) → refusal r ≡ hand_back_stop n l a → m ≡ handed_back n l a → KeepsTables K n (event (hand_back l a) (done_came r)) m
+  ring_hand_back_keeps n m l a r said-so left t = on_net n m _ (hand_back_stop n l a) (hand_back l a) (done_came r) t refl (λ z e. (refl, e)) (done_due r (hand_back_stop n l a) said-so) left
 
   -- a flow offered: refused, or copied
   pub take_up_refused : (p : State C) (fs : List ℤ) (s : Told) → Some s ≡ stop_of K p (take_up fs) → Keeps K p (event (take_up fs) (refused s)) p

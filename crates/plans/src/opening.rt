@@ -1,7 +1,7 @@
 // Open: a plan begins with the imbalances of its flow as its needs.
 
 ghost use Rattle.std.specs.Prelude.{◌≡◌, ℕ, Ok};
-ghost use Rattle.networks.specs.Answers.{answer, said, unless};
+ghost use Rattle.networks.specs.Answers.{refusal, unless};
 ghost use Rattle.runs.specs.States.{state, opening_stop, opened, New};
 
 use costs::CostKind;
@@ -16,11 +16,11 @@ pub fn open<N: Network>(
     prices: &[N::Cost],
     marks: &[u8],
 ) -> Result<(), Stop>
-    ensures stops { said result ≡ answer (opening_stop N.Cost.CostKind.kind (state (N.meaning net.now) flow.now needs.old prices.now marks.now)) tt }
+    ensures stops { refusal result ≡ opening_stop N.Cost.CostKind.kind (state (N.meaning net.now) flow.now needs.old prices.now marks.now) }
     ensures leaves { state (N.meaning net.now) flow.now needs.new prices.now marks.now ≡ unless (opening_stop N.Cost.CostKind.kind (state (N.meaning net.now) flow.now needs.old prices.now marks.now)) (state (N.meaning net.now) flow.now needs.old prices.now marks.now) (opened (state (N.meaning net.now) flow.now needs.old prices.now marks.now)) }
     ensures new { result ≡ Ok tt → New N.Cost.CostKind.kind (state (N.meaning net.now) flow.now needs.new prices.now marks.now) }
 {
-    open_stop(net, flow, needs.len(), prices.len(), marks.len())?;
+    open_stop(net, flow, needs, prices, marks)?;
     imbalances(net, flow, needs);
     Ok(())
 }

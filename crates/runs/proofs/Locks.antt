@@ -3,15 +3,8 @@ use Rattle.std.proofs.Common.{◌≡◌, ℕ, suc, ◌≤◌, Bool, true, false,
 use Rattle.std.specs.Option.{option_map}
 use Rattle.std.proofs.lemmas.Bool.{cond-true, cond-false, eqb-true, eq-eqb, ne_eqb, false≢true}
 use Rattle.networks.specs.Nets.{Lock, out_at, is_out, lock_at, with_lock}
+use Rattle.networks.proofs.Back.{length_with}
 use Rattle.runs.specs.States.{out_of}
-
-length_with : (os : List Lock) (l : ℕ) (f : Lock → Lock) → length (with_lock os l f) ≡ length os
-length_with [] l f = refl
-length_with (o ∷ os) l f = go (eqb l (suc (length os))) (length_with os l f)
-  where
-    go : (b : Bool) → length (with_lock os l f) ≡ length os → length (cond b (f o ∷ os) (o ∷ with_lock os l f)) ≡ suc (length os)
-    go true more = refl
-    go false more = ap suc more
 
 -- the lock-out that was changed
 pub with_same : (os : List Lock) (l : ℕ) (f : Lock → Lock) → lock_at (with_lock os l f) l ≡ option_map f (lock_at os l)

@@ -7,7 +7,7 @@ use networks::{Bounds, Stop};
 use search::Answer;
 
 // A call. An offered flow is the part of that length, from that place on, of the flows lent beside the list.
-#[derive(Clone, Copy)]
+#[derive(Clone, Copy, Debug, PartialEq, Eq)]
 pub enum Call<C> {
     Settle { budget: u32 },
     Rebound { arc: usize, bounds: Bounds },
@@ -18,7 +18,7 @@ pub enum Call<C> {
 }
 
 // What came of a call: granted with settle's answer, granted, or refused.
-#[derive(Clone, Copy, Debug, PartialEq)]
+#[derive(Clone, Copy, Debug, PartialEq, Eq)]
 pub enum Outcome<C> {
     Settled(Answer<C>),
     Done,

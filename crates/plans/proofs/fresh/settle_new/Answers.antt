@@ -19,5 +19,5 @@ pub returns : goal.returns
 returns g c =
     let h = c.in_ok-open.ensures in
     let n = g.N.Network.meaning c.args.net.now in
-    new_settled g.N.Cost.CostKind.kind (state (g.N.Network.meaning c.args.net.now) c.args.flow.now c.args.needs.now c.args.prices.now c.args.marks.now) c.args.budget g.met.N.Cost.CostKind.lawful c.in_ok-open.field-0
+    new_settled g.N.Cost.CostKind.kind (state (g.N.Network.meaning c.args.net.now) c.args.flow.now c.args.needs.now c.args.prices.now c.args.marks.now) c.args.budget g.met.N.Cost.CostKind.lawful
     (state n c.args.flow.now c.open.new.needs c.args.prices.now c.args.marks.now) (state n c.settle.new.flow c.open.new.needs c.settle.new.prices c.settle.new.marks) c.settle.result h.stops h.leaves c.settle.ensures

@@ -1,9 +1,9 @@
 use Rattle.std.proofs.Common.{Err, length, sym, ap, ◌∙◌, arith}
 use Rattle.std.proofs.lemmas.Result.{err_from_is_err_and}
-use Rattle.networks.specs.Answers.{said}
+use Rattle.networks.specs.Answers.{refusal}
 use Rattle.networks.specs.Stops.{told}
 use Rattle.runs.specs.States.{state}
-use Rattle.plans.proofs.Opened.{opens, open_leaves, open_new, open_refused, due_answer, never_ok}
+use Rattle.plans.proofs.Opened.{opens, open_leaves, open_new, open_refused, never_ok}
 use Rattle.plans.proofs.opening.open.Goals as goal
 
 pub imbalances-requires : goal.imbalances-requires
@@ -18,14 +18,14 @@ returns-in_err-open_stop g c =
     let h = c.in_err-open_stop.ensures in
     let out = err_from_is_err_and c.from_residual.result c.from_residual.ensures.1 in
     let e = out.1 ∙ ap Err out.2 in
-    record { stops = ap said e ∙ due_answer _ _ h; leaves = open_refused g.N.Cost.CostKind.kind p (told c.in_err-open_stop.field-0.0) h; new = λ ok. absurd (never_ok c.in_err-open_stop.field-0.0 (sym e ∙ ok)) }
+    record { stops = ap refusal e ∙ h; leaves = open_refused g.N.Cost.CostKind.kind p (told c.in_err-open_stop.field-0.0) h; new = λ ok. absurd (never_ok c.in_err-open_stop.field-0.0 (sym e ∙ ok)) }
 
 pub returns : goal.returns
 returns g c =
     let p = state (g.N.Network.meaning c.args.net.now) c.args.flow.now c.args.needs.now c.args.prices.now c.args.marks.now in
     let h = c.in_ok-open_stop.ensures in
     record {
-      stops = due_answer _ _ h;
+      stops = h;
       leaves = open_leaves g.N.Cost.CostKind.kind p c.imbalances.new.needs h c.imbalances.ensures;
       new = λ _. open_new g.N.Cost.CostKind.kind p c.imbalances.new.needs h c.imbalances.ensures;
     }

@@ -19,6 +19,6 @@ pub returns : goal.returns
 returns g c =
     let h = c.in_ok-open.ensures in
     let n = g.N.Network.meaning c.args.net.now in
-    run_made g.N.Cost.CostKind.kind (state (g.N.Network.meaning c.args.net.now) c.args.flow.now c.args.needs.now c.args.prices.now c.args.marks.now) c.args.tags.now.places c.args.offers.now c.args.calls.now c.args.outcomes.now g.met.N.Cost.CostKind.lawful c.in_ok-open.field-0
+    run_made g.N.Cost.CostKind.kind (state (g.N.Network.meaning c.args.net.now) c.args.flow.now c.args.needs.now c.args.prices.now c.args.marks.now) c.args.tags.now.places c.args.offers.now c.args.calls.now c.args.outcomes.now g.met.N.Cost.CostKind.lawful
     (state n c.args.flow.now c.open.new.needs c.args.prices.now c.args.marks.now) (state (g.N.Network.meaning c.make_all.new.net) c.make_all.new.flow c.open.new.needs c.make_all.new.prices c.make_all.new.marks)
     c.make_all.new.tags.places c.make_all.new.outcomes c.make_all.result h.stops h.leaves c.make_all.ensures
