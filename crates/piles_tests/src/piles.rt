@@ -6,9 +6,9 @@ use layers::Closing;
 use makes::ArcTable;
 use networks::{Lockout, Stop};
 use runs::{Call, Outcome};
-use search::Answer;
+use search::{Answer, FULL_BUDGET};
 use std::test::Fail;
-use tests_kit::{FULL, ZERO, bounds, is_least, row, run_all, triangle};
+use tests_kit::{ZERO, bounds, is_least, row, run_all, triangle};
 
 #[test]
 fn closing_in_a_pile(rt: HostRuntime) -> Result<(), Fail> {
@@ -19,21 +19,19 @@ fn closing_in_a_pile(rt: HostRuntime) -> Result<(), Fail> {
     assert!(rt; closing.demand(2, bounds(0, 4)?).is_ok());
     let mut net = Lockout::new(closing);
     let calls = [
-        Call::Settle { budget: FULL },
+        Call::Settle { budget: FULL_BUDGET },
         Call::TakeOut { layer: 1, arc: 1 },
-        Call::Settle { budget: FULL },
+        Call::Settle { budget: FULL_BUDGET },
         Call::HandBack { layer: 2, arc: 1 },
         Call::HandBack { layer: 1, arc: 1 },
         Call::TakeOut { layer: 1, arc: 2 },
         Call::TakeOut { layer: 2, arc: 2 },
         Call::HandBack { layer: 2, arc: 2 },
-        Call::Settle { budget: FULL },
+        Call::Settle { budget: FULL_BUDGET },
     ];
-    let mut outcomes = [Outcome::Done; 9];
     let mut flow = [0; 4];
     let mut prices = [ZERO; 4];
-    let made = run_all(&mut net, &mut flow, &mut prices, &[], &calls, &mut outcomes)?;
-    assert_eq!(rt; made, 9);
+    let outcomes = run_all(&mut net, &mut flow, &mut prices, &[], &calls)?;
     assert!(rt; is_least(outcomes[0], -36));
     assert!(rt; is_least(outcomes[2], 0));
     assert_eq!(rt; outcomes[3], Outcome::Refused(Stop::NotOut(1)));
@@ -52,18 +50,16 @@ fn triangle_in_a_pile(rt: HostRuntime) -> Result<(), Fail> {
     let mut net = Lockout::new(Closing::new(table, bounds(0, 0)?, Plain { units: 0 }));
     let calls = [
         Call::TakeOut { layer: 1, arc: 3 },
-        Call::Settle { budget: FULL },
+        Call::Settle { budget: FULL_BUDGET },
         Call::TakeOut { layer: 2, arc: 3 },
         Call::HandBack { layer: 1, arc: 3 },
-        Call::Settle { budget: FULL },
+        Call::Settle { budget: FULL_BUDGET },
         Call::HandBack { layer: 2, arc: 3 },
-        Call::Settle { budget: FULL },
+        Call::Settle { budget: FULL_BUDGET },
     ];
-    let mut outcomes = [Outcome::Done; 7];
     let mut flow = [0; 5];
     let mut prices = [ZERO; 5];
-    let made = run_all(&mut net, &mut flow, &mut prices, &[], &calls, &mut outcomes)?;
-    assert_eq!(rt; made, 7);
+    let outcomes = run_all(&mut net, &mut flow, &mut prices, &[], &calls)?;
     assert_eq!(rt; outcomes[1], Outcome::Settled(Answer::None));
     assert_eq!(rt; outcomes[4], Outcome::Settled(Answer::None));
     assert!(rt; is_least(outcomes[6], 19));
@@ -101,7 +97,7 @@ fn two_hours_alone(rt: HostRuntime) -> Result<(), Fail> {
     let mut net = HourChain::new(2, &mut rows);
     let two = bounds(0, 2)?;
     let calls = [
-        Call::Settle { budget: FULL },
+        Call::Settle { budget: FULL_BUDGET },
         Call::Rebound {
             arc: 2,
             bounds: two,
@@ -110,13 +106,11 @@ fn two_hours_alone(rt: HostRuntime) -> Result<(), Fail> {
             arc: 7,
             bounds: two,
         },
-        Call::Settle { budget: FULL },
+        Call::Settle { budget: FULL_BUDGET },
     ];
-    let mut outcomes = [Outcome::Done; 4];
     let mut flow = [0; 10];
     let mut prices = [ZERO; 3];
-    let made = run_all(&mut net, &mut flow, &mut prices, &[], &calls, &mut outcomes)?;
-    assert_eq!(rt; made, 4);
+    let outcomes = run_all(&mut net, &mut flow, &mut prices, &[], &calls)?;
     assert!(rt; is_least(outcomes[0], 15));
     assert_eq!(rt; outcomes[3], Outcome::Settled(Answer::None));
     assert_eq!(rt; flow, [5, 0, 0, 2, 4, 0, 3, 0, 6, 1]);
@@ -130,15 +124,13 @@ fn hours_in_a_pile(rt: HostRuntime) -> Result<(), Fail> {
     let mut net = Lockout::new(Closing::new(chain, bounds(0, 0)?, Plain { units: 0 }));
     let calls = [
         Call::TakeOut { layer: 1, arc: 7 },
-        Call::Settle { budget: FULL },
+        Call::Settle { budget: FULL_BUDGET },
         Call::HandBack { layer: 1, arc: 7 },
-        Call::Settle { budget: FULL },
+        Call::Settle { budget: FULL_BUDGET },
     ];
-    let mut outcomes = [Outcome::Done; 4];
     let mut flow = [0; 11];
     let mut prices = [ZERO; 5];
-    let made = run_all(&mut net, &mut flow, &mut prices, &[], &calls, &mut outcomes)?;
-    assert_eq!(rt; made, 4);
+    let outcomes = run_all(&mut net, &mut flow, &mut prices, &[], &calls)?;
     assert_eq!(rt; outcomes[1], Outcome::Settled(Answer::None));
     assert!(rt; is_least(outcomes[3], 15));
     assert_eq!(rt; flow, [5, 0, 0, 2, 4, 0, 3, 0, 6, 1, 0]);

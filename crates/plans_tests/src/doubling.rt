@@ -7,23 +7,17 @@
 use costs::TwoTier;
 use makes::{ArcTable, Row};
 use runs::{Call, Outcome};
-use search::Answer;
+use search::{Answer, FULL_BUDGET};
 use std::alloc::{AllocError, Global};
 use std::test::Fail;
-use tests_kit::{FULL, run_all};
+use tests_kit::{run_all, tiers};
 
 const STAGES: usize = 50;
 
 const LARGE: i64 = 1_000_000;
 
 fn arc(from: usize, to: usize, lo: i32, first: i64, second: i64) -> Row<TwoTier> {
-    Row {
-        from,
-        to,
-        lo,
-        hi: 1,
-        cost: TwoTier { first, second },
-    }
+    Row::new(from, to, lo, 1, tiers(first, second))
 }
 
 // The two arcs that measure a stage: from node 1, or from the first node two stages before.
@@ -60,19 +54,14 @@ fn stages(heap: Global) -> Result<Vec<Row<TwoTier>>, AllocError> {
 fn prices_stay_small(rt: HostRuntime) -> Result<(), Fail> {
     let mut rows = stages(rt.alloc())?;
     let mut net = ArcTable::new(101, 345, &mut rows);
-    let calls = [Call::Settle { budget: FULL }];
-    let mut outcomes = [Outcome::Done];
+    let calls = [Call::Settle { budget: FULL_BUDGET }];
     let mut flow = [0; 345];
-    let mut prices = [TwoTier {
-        first: 0,
-        second: 0,
-    }; 101];
-    let made = run_all(&mut net, &mut flow, &mut prices, &[], &calls, &mut outcomes)?;
-    assert_eq!(rt; made, 1);
+    let mut prices = [tiers(0, 0); 101];
+    let outcomes = run_all(&mut net, &mut flow, &mut prices, &[], &calls)?;
     let Outcome::Settled(Answer::Least { total, laps }) = outcomes[0] else {
         return Err(Fail::new("not least"));
     };
-    assert_eq!(rt; (total.first, total.second), (49, 0));
+    assert_eq!(rt; total, tiers(49, 0));
     assert_eq!(rt; laps, 49);
     for p in prices {
         assert!(rt; p.first.unsigned_abs() <= 100_000_000);

@@ -1,13 +1,13 @@
 // Runs on tables: the triangle with an arc out and handed back, with other bounds and costs; two nodes; two tiers.
 
-use costs::{Plain, TwoTier};
+use costs::Plain;
 use makes::{ArcTable, Row};
 use networks::{Lockout, Stop};
 use runs::{Call, Outcome};
-use search::Answer;
+use search::{Answer, FULL_BUDGET};
 use std::alloc::{AllocError, Global};
 use std::test::Fail;
-use tests_kit::{FULL, ZERO, bounds, is_least, row, run_all, triangle};
+use tests_kit::{ZERO, bounds, is_least, row, run_all, run_some, tiers, triangle};
 
 #[test]
 fn out_and_back(rt: HostRuntime) -> Result<(), Fail> {
@@ -15,21 +15,19 @@ fn out_and_back(rt: HostRuntime) -> Result<(), Fail> {
     let mut net = Lockout::new(ArcTable::new(3, 4, &mut rows));
     let nine = bounds(9, 9)?;
     let calls = [
-        Call::Settle { budget: FULL },
+        Call::Settle { budget: FULL_BUDGET },
         Call::TakeOut { layer: 1, arc: 3 },
         Call::Rebound {
             arc: 3,
             bounds: nine,
         },
-        Call::Settle { budget: FULL },
+        Call::Settle { budget: FULL_BUDGET },
         Call::HandBack { layer: 1, arc: 3 },
-        Call::Settle { budget: FULL },
+        Call::Settle { budget: FULL_BUDGET },
     ];
-    let mut outcomes = [Outcome::Done; 6];
     let mut flow = [0; 4];
     let mut prices = [ZERO; 3];
-    let made = run_all(&mut net, &mut flow, &mut prices, &[], &calls, &mut outcomes)?;
-    assert_eq!(rt; made, 6);
+    let outcomes = run_all(&mut net, &mut flow, &mut prices, &[], &calls)?;
     assert!(rt; is_least(outcomes[0], 19));
     assert_eq!(rt; outcomes[1], Outcome::Done);
     assert_eq!(rt; outcomes[2], Outcome::Refused(Stop::Held(3)));
@@ -50,30 +48,21 @@ fn other_bounds_and_costs(rt: HostRuntime) -> Result<(), Fail> {
             arc: 4,
             bounds: nine,
         },
-        Call::Settle { budget: FULL },
+        Call::Settle { budget: FULL_BUDGET },
         Call::Recost {
             arc: 3,
             cost: Plain { units: 1 },
         },
-        Call::Settle { budget: FULL },
+        Call::Settle { budget: FULL_BUDGET },
         Call::TakeUp { from: 1, len: 4 },
         Call::Rebound {
             arc: 5,
             bounds: nine,
         },
     ];
-    let mut outcomes = [Outcome::Done; 6];
     let mut flow = [0; 4];
     let mut prices = [ZERO; 3];
-    let made = run_all(
-        &mut net,
-        &mut flow,
-        &mut prices,
-        &[0, 1, 0, 0, 0],
-        &calls,
-        &mut outcomes,
-    )?;
-    assert_eq!(rt; made, 6);
+    let outcomes = run_all(&mut net, &mut flow, &mut prices, &[0, 1, 0, 0, 0], &calls)?;
     assert!(rt; is_least(outcomes[1], 31));
     assert!(rt; is_least(outcomes[3], 19));
     assert_eq!(rt; outcomes[4], Outcome::Refused(Stop::Imbalance(1)));
@@ -89,22 +78,13 @@ fn paused_and_gone_on(rt: HostRuntime) -> Result<(), Fail> {
     let calls = [
         Call::Settle { budget: 0 },
         Call::Settle { budget: 1 },
-        Call::Settle { budget: FULL },
+        Call::Settle { budget: FULL_BUDGET },
         Call::TakeUp { from: 0, len: 4 },
         Call::Settle { budget: 0 },
     ];
-    let mut outcomes = [Outcome::Done; 5];
     let mut flow = [0; 4];
     let mut prices = [ZERO; 3];
-    let made = run_all(
-        &mut net,
-        &mut flow,
-        &mut prices,
-        &[5, 5, 1, 6],
-        &calls,
-        &mut outcomes,
-    )?;
-    assert_eq!(rt; made, 5);
+    let outcomes = run_all(&mut net, &mut flow, &mut prices, &[5, 5, 1, 6], &calls)?;
     assert_eq!(rt; outcomes[0], Outcome::Settled(Answer::Paused { laps: 0 }));
     assert_eq!(rt; outcomes[1], Outcome::Settled(Answer::Paused { laps: 1 }));
     assert!(rt; is_least(outcomes[2], 19));
@@ -118,15 +98,12 @@ fn two_nodes(rt: HostRuntime) -> Result<(), Fail> {
     let mut rows = [row(1, 2, 0, 5, 1)];
     let mut net = ArcTable::new(2, 1, &mut rows);
     let calls = [Call::Settle { budget: 0 }];
-    let mut outcomes = [Outcome::Done];
     let mut flow = [3];
     let mut prices = [ZERO; 2];
-    let made = run_all(&mut net, &mut flow, &mut prices, &[], &calls, &mut outcomes)?;
-    assert_eq!(rt; made, 1);
+    let outcomes = run_all(&mut net, &mut flow, &mut prices, &[], &calls)?;
     assert!(rt; is_least(outcomes[0], 3));
     flow = [6];
-    let made = run_all(&mut net, &mut flow, &mut prices, &[], &calls, &mut outcomes)?;
-    assert_eq!(rt; made, 1);
+    let outcomes = run_all(&mut net, &mut flow, &mut prices, &[], &calls)?;
     assert_eq!(rt; outcomes[0], Outcome::Settled(Answer::None));
     assert_eq!(rt; flow, [6]);
     Ok(())
@@ -134,14 +111,9 @@ fn two_nodes(rt: HostRuntime) -> Result<(), Fail> {
 
 // Sixteen lines are out, the next take-out finds none free, and all are handed back; the last call has no tag.
 fn seventeen(heap: Global) -> Result<Vec<Call<Plain>>, AllocError> {
-    let mut calls = Vec::new(heap);
-    for arc in 1..18 {
-        calls.push(Call::TakeOut { layer: 1, arc })?;
-    }
-    for arc in 1..18 {
-        calls.push(Call::HandBack { layer: 1, arc })?;
-    }
-    Ok(calls)
+    let outs = (1..18).map(|arc| Call::TakeOut { layer: 1, arc });
+    let backs = (1..18).map(|arc| Call::HandBack { layer: 1, arc });
+    outs.chain(backs).collect(heap)
 }
 
 #[test]
@@ -152,7 +124,7 @@ fn full_and_short(rt: HostRuntime) -> Result<(), Fail> {
     let mut outcomes = [Outcome::Done; 34];
     let mut flow = [0; 17];
     let mut prices = [ZERO; 1];
-    let made = run_all(&mut net, &mut flow, &mut prices, &[], &calls, &mut outcomes)?;
+    let made = run_some(&mut net, &mut flow, &mut prices, &[], &calls, &mut outcomes)?;
     assert_eq!(rt; made, 33);
     assert_eq!(rt; outcomes[15], Outcome::Done);
     assert_eq!(rt; outcomes[16], Outcome::Refused(Stop::Full));
@@ -162,48 +134,20 @@ fn full_and_short(rt: HostRuntime) -> Result<(), Fail> {
 
 #[test]
 fn two_tiers(rt: HostRuntime) -> Result<(), Fail> {
-    let first = TwoTier {
-        first: 1,
-        second: 0,
-    };
-    let second = TwoTier {
-        first: 0,
-        second: 9,
-    };
-    let arc = Row {
-        from: 1,
-        to: 2,
-        lo: 0,
-        hi: 5,
-        cost: first,
-    };
-    let mut rows = [arc; 3];
-    rows[1].cost = second;
-    rows[2] = Row {
-        from: 2,
-        to: 1,
-        lo: 3,
-        hi: 3,
-        cost: TwoTier {
-            first: 0,
-            second: 0,
-        },
-    };
+    let mut rows = [
+        Row::new(1, 2, 0, 5, tiers(1, 0)),
+        Row::new(1, 2, 0, 5, tiers(0, 9)),
+        Row::new(2, 1, 3, 3, tiers(0, 0)),
+    ];
     let mut net = ArcTable::new(2, 3, &mut rows);
-    let calls = [Call::Settle { budget: FULL }];
-    let mut outcomes = [Outcome::Done];
+    let calls = [Call::Settle { budget: FULL_BUDGET }];
     let mut flow = [0; 3];
-    let mut prices = [TwoTier {
-        first: 0,
-        second: 0,
-    }; 2];
-    let made = run_all(&mut net, &mut flow, &mut prices, &[], &calls, &mut outcomes)?;
-    assert_eq!(rt; made, 1);
+    let mut prices = [tiers(0, 0); 2];
+    let outcomes = run_all(&mut net, &mut flow, &mut prices, &[], &calls)?;
     let Outcome::Settled(Answer::Least { total, laps: _ }) = outcomes[0] else {
         return Err(Fail::new("not least"));
     };
-    assert_eq!(rt; total.first, 0);
-    assert_eq!(rt; total.second, 27);
+    assert_eq!(rt; total, tiers(0, 27));
     assert_eq!(rt; flow, [0, 3, 3]);
     Ok(())
 }

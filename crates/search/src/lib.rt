@@ -2,7 +2,7 @@
 //
 // `settle` answers least with the total and the laps, paused with the laps, or none; it refuses exactly
 // when the first stop says so. A guard over the lent flow puts it back as found unless the search commits,
-// which it does for the answers least and paused only. `full_budget` is so much that settle never pauses.
+// which it does for the answers least and paused only. `FULL_BUDGET` is one that no search uses up.
 // Nothing is allocated.
 #![tactic(auto)]
 
@@ -12,5 +12,5 @@ mod guard;
 mod seek;
 mod settling;
 
-pub use budgets::full_budget;
+pub use budgets::FULL_BUDGET;
 pub use settling::{Answer, settle};

@@ -1,7 +1,7 @@
 // What tests of runs share: a run over small tables, and a question about its outcomes. Only tests use it.
 #![tactic(auto)]
 
-use costs::Plain;
+use costs::{Plain, TwoTier};
 use makes::Row;
 use networks::{Bounds, Network, TagRing};
 use plans::run;
@@ -13,17 +13,12 @@ use std::test::Fail;
 // A price to begin with.
 pub const ZERO: Plain = Plain { units: 0 };
 
-// Enough for every network here.
-pub const FULL: u32 = 2_048_000_000;
+pub fn tiers(first: i64, second: i64) -> TwoTier {
+    TwoTier { first, second }
+}
 
 pub fn row(from: usize, to: usize, lo: i32, hi: i32, units: i64) -> Row<Plain> {
-    Row {
-        from,
-        to,
-        lo,
-        hi,
-        cost: Plain { units },
-    }
+    Row::new(from, to, lo, hi, Plain { units })
 }
 
 // From 1 to 2 to 3 and from 1 to 3, and just 6 back from 3 to 1.
@@ -42,38 +37,47 @@ pub fn bounds(lo: i32, hi: i32) -> Result<Bounds, Fail> {
 
 // Lets a ring go that has to be empty. One with tags left cannot be let go: a test that is about to fail keeps it for ever.
 fn close(tags: TagRing) -> Result<(), Fail> {
-    match tags.close() {
-        Ok(()) => Ok(()),
-        Err(left) => {
-            let _kept = unsafe { ManuallyDrop::new_unchecked(left) };
-            Err(Fail::new("tags are left"))
-        }
-    }
+    tags.close().map_err(|left| {
+        let _kept = unsafe { ManuallyDrop::new_unchecked(left) };
+        Fail::new("tags are left")
+    })
 }
 
-// Runs the calls on a plan, and says how many were made.
-pub fn run_all<N: Network>(
+// Runs the calls on a plan, as far as they can be made, and says how many were.
+pub fn run_some<N: Network, const NODES: usize>(
     net: &mut N,
     flow: &mut [i32],
-    prices: &mut [N::Cost],
+    prices: &mut [N::Cost; NODES],
     offers: &[i32],
     calls: &[Call<N::Cost>],
     outcomes: &mut [Outcome<N::Cost>],
 ) -> Result<usize, Fail> {
-    let nodes = prices.len();
-    if nodes > 256 {
+    if NODES > 256 {
         return Err(Fail::new("too many nodes"));
     }
-    let mut all_needs = [0; 256];
-    let mut all_marks = [7u8; 256];
-    let needs = &mut all_needs[0..nodes];
-    let marks = &mut all_marks[0..nodes];
+    let mut needs = [0; NODES];
+    let mut marks = [7; NODES];
     let mut tags = TagRing::new();
     let made = run(
-        net, flow, needs, prices, marks, &mut tags, offers, calls, outcomes,
+        net, flow, &mut needs, prices, &mut marks, &mut tags, offers, calls, outcomes,
     );
     close(tags)?;
     Ok(made?)
+}
+
+// Runs the calls on a plan and gives what came of each; fails where one cannot be made.
+pub fn run_all<N: Network, const NODES: usize, const CALLS: usize>(
+    net: &mut N,
+    flow: &mut [i32],
+    prices: &mut [N::Cost; NODES],
+    offers: &[i32],
+    calls: &[Call<N::Cost>; CALLS],
+) -> Result<[Outcome<N::Cost>; CALLS], Fail> {
+    let mut outcomes = [Outcome::Done; CALLS];
+    if run_some(net, flow, prices, offers, calls, &mut outcomes)? < CALLS {
+        return Err(Fail::new("a call was not made"));
+    }
+    Ok(outcomes)
 }
 
 // The outcome is least with that total; the laps are told apart only where they are sure.
