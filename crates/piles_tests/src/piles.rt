@@ -19,15 +19,21 @@ fn closing_in_a_pile(rt: HostRuntime) -> Result<(), Fail> {
     assert!(rt; closing.demand(2, bounds(0, 4)?).is_ok());
     let mut net = Lockout::new(closing);
     let calls = [
-        Call::Settle { budget: FULL_BUDGET },
+        Call::Settle {
+            budget: FULL_BUDGET,
+        },
         Call::TakeOut { layer: 1, arc: 1 },
-        Call::Settle { budget: FULL_BUDGET },
+        Call::Settle {
+            budget: FULL_BUDGET,
+        },
         Call::HandBack { layer: 2, arc: 1 },
         Call::HandBack { layer: 1, arc: 1 },
         Call::TakeOut { layer: 1, arc: 2 },
         Call::TakeOut { layer: 2, arc: 2 },
         Call::HandBack { layer: 2, arc: 2 },
-        Call::Settle { budget: FULL_BUDGET },
+        Call::Settle {
+            budget: FULL_BUDGET,
+        },
     ];
     let mut flow = [0; 4];
     let mut prices = [ZERO; 4];
@@ -50,12 +56,18 @@ fn triangle_in_a_pile(rt: HostRuntime) -> Result<(), Fail> {
     let mut net = Lockout::new(Closing::new(table, bounds(0, 0)?, Plain { units: 0 }));
     let calls = [
         Call::TakeOut { layer: 1, arc: 3 },
-        Call::Settle { budget: FULL_BUDGET },
+        Call::Settle {
+            budget: FULL_BUDGET,
+        },
         Call::TakeOut { layer: 2, arc: 3 },
         Call::HandBack { layer: 1, arc: 3 },
-        Call::Settle { budget: FULL_BUDGET },
+        Call::Settle {
+            budget: FULL_BUDGET,
+        },
         Call::HandBack { layer: 2, arc: 3 },
-        Call::Settle { budget: FULL_BUDGET },
+        Call::Settle {
+            budget: FULL_BUDGET,
+        },
     ];
     let mut flow = [0; 5];
     let mut prices = [ZERO; 5];
@@ -97,7 +109,9 @@ fn two_hours_alone(rt: HostRuntime) -> Result<(), Fail> {
     let mut net = HourChain::new(2, &mut rows);
     let two = bounds(0, 2)?;
     let calls = [
-        Call::Settle { budget: FULL_BUDGET },
+        Call::Settle {
+            budget: FULL_BUDGET,
+        },
         Call::Rebound {
             arc: 2,
             bounds: two,
@@ -106,7 +120,9 @@ fn two_hours_alone(rt: HostRuntime) -> Result<(), Fail> {
             arc: 7,
             bounds: two,
         },
-        Call::Settle { budget: FULL_BUDGET },
+        Call::Settle {
+            budget: FULL_BUDGET,
+        },
     ];
     let mut flow = [0; 10];
     let mut prices = [ZERO; 3];
@@ -124,9 +140,13 @@ fn hours_in_a_pile(rt: HostRuntime) -> Result<(), Fail> {
     let mut net = Lockout::new(Closing::new(chain, bounds(0, 0)?, Plain { units: 0 }));
     let calls = [
         Call::TakeOut { layer: 1, arc: 7 },
-        Call::Settle { budget: FULL_BUDGET },
+        Call::Settle {
+            budget: FULL_BUDGET,
+        },
         Call::HandBack { layer: 1, arc: 7 },
-        Call::Settle { budget: FULL_BUDGET },
+        Call::Settle {
+            budget: FULL_BUDGET,
+        },
     ];
     let mut flow = [0; 11];
     let mut prices = [ZERO; 5];

@@ -54,7 +54,9 @@ fn stages(heap: Global) -> Result<Vec<Row<TwoTier>>, AllocError> {
 fn prices_stay_small(rt: HostRuntime) -> Result<(), Fail> {
     let mut rows = stages(rt.alloc())?;
     let mut net = ArcTable::new(101, 345, &mut rows);
-    let calls = [Call::Settle { budget: FULL_BUDGET }];
+    let calls = [Call::Settle {
+        budget: FULL_BUDGET,
+    }];
     let mut flow = [0; 345];
     let mut prices = [tiers(0, 0); 101];
     let outcomes = run_all(&mut net, &mut flow, &mut prices, &[], &calls)?;

@@ -15,15 +15,21 @@ fn out_and_back(rt: HostRuntime) -> Result<(), Fail> {
     let mut net = Lockout::new(ArcTable::new(3, 4, &mut rows));
     let nine = bounds(9, 9)?;
     let calls = [
-        Call::Settle { budget: FULL_BUDGET },
+        Call::Settle {
+            budget: FULL_BUDGET,
+        },
         Call::TakeOut { layer: 1, arc: 3 },
         Call::Rebound {
             arc: 3,
             bounds: nine,
         },
-        Call::Settle { budget: FULL_BUDGET },
+        Call::Settle {
+            budget: FULL_BUDGET,
+        },
         Call::HandBack { layer: 1, arc: 3 },
-        Call::Settle { budget: FULL_BUDGET },
+        Call::Settle {
+            budget: FULL_BUDGET,
+        },
     ];
     let mut flow = [0; 4];
     let mut prices = [ZERO; 3];
@@ -48,12 +54,16 @@ fn other_bounds_and_costs(rt: HostRuntime) -> Result<(), Fail> {
             arc: 4,
             bounds: nine,
         },
-        Call::Settle { budget: FULL_BUDGET },
+        Call::Settle {
+            budget: FULL_BUDGET,
+        },
         Call::Recost {
             arc: 3,
             cost: Plain { units: 1 },
         },
-        Call::Settle { budget: FULL_BUDGET },
+        Call::Settle {
+            budget: FULL_BUDGET,
+        },
         Call::TakeUp { from: 1, len: 4 },
         Call::Rebound {
             arc: 5,
@@ -78,7 +88,9 @@ fn paused_and_gone_on(rt: HostRuntime) -> Result<(), Fail> {
     let calls = [
         Call::Settle { budget: 0 },
         Call::Settle { budget: 1 },
-        Call::Settle { budget: FULL_BUDGET },
+        Call::Settle {
+            budget: FULL_BUDGET,
+        },
         Call::TakeUp { from: 0, len: 4 },
         Call::Settle { budget: 0 },
     ];
@@ -140,7 +152,9 @@ fn two_tiers(rt: HostRuntime) -> Result<(), Fail> {
         Row::new(2, 1, 3, 3, tiers(0, 0)),
     ];
     let mut net = ArcTable::new(2, 3, &mut rows);
-    let calls = [Call::Settle { budget: FULL_BUDGET }];
+    let calls = [Call::Settle {
+        budget: FULL_BUDGET,
+    }];
     let mut flow = [0; 3];
     let mut prices = [tiers(0, 0); 2];
     let outcomes = run_all(&mut net, &mut flow, &mut prices, &[], &calls)?;
