@@ -77,11 +77,6 @@ length_none (x ∷ xs) e = absurd (omega arith)
 le_same : (a : ℤ) → a ≤ℤ a
 le_same a = omega (arith, ints)
 
--- turns that leave what they hold as it is
-pub held_same : {F : Type 0} (turn : F × ℤ → Bor Step → F × ℤ → Type 0) (xs : List (Bor Step)) (p q : F × ℤ) → FoldsTo turn p xs q → ((p q : F × ℤ) (x : Bor Step) → turn p x q → q.0 ≡ p.0) → q.0 ≡ p.0
-held_same turn [] p q e same = ap (λ z. z.0) (sym e)
-held_same turn (x ∷ xs) p q (i, b, f) same = held_same turn xs i q f same ∙ same p i x b
-
 -- what holds of all steps holds of those that are left
 pub left_all : (P : Step → Type 0) (xs : List (Bor Step)) (s t : Iter Step) → Yields next_step s xs t → AllByRecursion P s.rest.now → AllByRecursion P t.rest.now
 left_all P [] s t e all = subst (λ (z : Iter Step). AllByRecursion P z.rest.now) e all

@@ -4,7 +4,8 @@ use Rattle.std.proofs.lemmas.Int.{to_z-of_z}
 use Rattle.std.specs.List.{AllByRecursion}
 use Rattle.flows.specs.Fits.{Small}
 use Rattle.labels.specs.Ways.{Moving, FitsIn}
-use Rattle.labels.proofs.Rooming.{left_all, least_turns, held_same}
+use Rattle.flows.proofs.Turns.{held_same}
+use Rattle.labels.proofs.Rooming.{left_all, least_turns}
 use Rattle.labels.proofs.laps.least_room.Goals as goal
 
 pub fold-requires-clause-callable : goal.fold-requires-clause-callable
