@@ -5,7 +5,7 @@ use Rattle.costs.specs.Kinds.{Kind, Laws}
 use Rattle.networks.specs.declared.network.Arc.{Arc}
 use Rattle.flows.specs.Flows.{Within}
 use Rattle.flows.specs.Kilter.{reduced, out_of_kilter, kilter_number}
-use Rattle.flows.proofs.Group.{off_on, le_refl}
+use Rattle.flows.proofs.Group.{le_refl}
 use Rattle.flows.proofs.Numbers.{number_zero, zero_number}
 use Rattle.flows.proofs.Rooms.{Amiss}
 
@@ -18,7 +18,7 @@ abbrev pub WantsLess : {C : Type 0} → Kind C → C → Arc C → ℤ → Type 
 WantsLess K c a f = (a.hi <ℤ f) ⊎ ((K.le c K.zero ≡ false) × (a.lo <ℤ f))
 
 on_off : {X : Type 0} → true ≡ false → X
-on_off e = off_on (sym e)
+on_off e = cc
 
 module _ {C : Type 0} (K : Kind C) (laws : Laws K) where
   room_up : (u d : Bool) (lo hi f : ℤ) → (u ≡ false → d ≡ true) → lo ≤ℤ hi → (f <ℤ lo) ⊎ ((u ≡ false) × (f <ℤ hi)) → f <ℤ cond d hi lo
@@ -36,7 +36,7 @@ module _ {C : Type 0} (K : Kind C) (laws : Laws K) where
       side (inr (u, _)) = inr u
 
   pub less_amiss : (ps : List C) (a : Arc C) (f : ℤ) → a.lo ≤ℤ a.hi → WantsLess K (reduced K ps a) a f → Amiss K ps a false f × (cond (K.le K.zero (reduced K ps a)) a.lo a.hi <ℤ f)
-  less_amiss ps a f h w = ((off_on, (λ _. side w)), room_down (K.le K.zero (reduced K ps a)) (K.le (reduced K ps a) K.zero) a.lo a.hi f (laws.total (reduced K ps a) K.zero) h w)
+  less_amiss ps a f h w = (((λ e. cc), (λ _. side w)), room_down (K.le K.zero (reduced K ps a)) (K.le (reduced K ps a) K.zero) a.lo a.hi f (laws.total (reduced K ps a) K.zero) h w)
     where
       side : WantsLess K (reduced K ps a) a f → (a.hi <ℤ f) ⊎ (K.le (reduced K ps a) K.zero ≡ false)
       side (inl l) = inl l

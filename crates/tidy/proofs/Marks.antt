@@ -5,7 +5,6 @@ use Rattle.std.specs.Option.{is_some, unwrap_or}
 use Rattle.std.proofs.lemmas.List.Sums.{passes_at_first}
 use Rattle.std.proofs.lemmas.Bool.{cond-true, lt-ltb, not-true}
 use Rattle.tidy.specs.Picks.{unmarked}
-use Rattle.flows.proofs.Group.{off_on}
 
 -- one mark more
 pub one_less : (ms : List Bool) (i : ℕ) → i < length ms → get_or ms i false ≡ false → suc (unmarked (set ms i true)) ≡ unmarked ms
@@ -27,9 +26,9 @@ at_most (true ∷ ms) = omega (arith, at_most ms)
 at_most (false ∷ ms) = omega (arith, at_most ms)
 
 pub some_labelled_at : (ms : List Bool) (i : ℕ) → get_or ms i false ≡ true → unmarked ms < length ms
-some_labelled_at [] i e = off_on e
+some_labelled_at [] i e = cc
 some_labelled_at (true ∷ ms) zero e = omega (arith, at_most ms)
-some_labelled_at (false ∷ ms) zero e = off_on e
+some_labelled_at (false ∷ ms) zero e = cc
 some_labelled_at (true ∷ ms) (suc i) e = omega (arith, some_labelled_at ms i e)
 some_labelled_at (false ∷ ms) (suc i) e = omega (arith, some_labelled_at ms i e)
 

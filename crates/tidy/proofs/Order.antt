@@ -1,5 +1,5 @@
 -- The nearest of the slacks.
-use Rattle.std.proofs.Common.{◌≡◌, ℕ, Bool, true, false, cond, List, [], ◌∷◌, Some, None, Option, sym, refl, ap, ◌∙◌, subst, arith}
+use Rattle.std.proofs.Common.{◌≡◌, Bool, true, false, cond, List, [], ◌∷◌, Some, None, Option, sym, refl, ap, ◌∙◌, subst, arith}
 use Rattle.std.specs.List.{AllByRecursion, FoldsTo}
 use Rattle.std.specs.Iterator.{Yields, YieldsFirst}
 use Rattle.networks.specs.declared.network.Arc.{Arc}
@@ -9,16 +9,13 @@ use Rattle.flows.proofs.Nearer.{nearer_total, nearer_trans, nearer_refl}
 use Rattle.tidy.specs.declared.picks.Pick.{Pick}
 use Rattle.tidy.specs.Picks.{slack_of, chosen, nearest_of}
 
-pub some_none : {X Y : Type 0} {x : X} → None ≡ Some x → Y
-some_none e = absurd (let z : ◌≡◌ {A = ℕ} 0 1 = cc in omega arith)
-
 module _ {C : Type 0} (K : Kind C) (laws : Laws K) where
   module _ (p : Pick C) where
     -- p is as near as what was the best, and as one more
     both : (best s : Option (Pick C)) → ((b : Pick C) → chosen K best s ≡ Some b → nearer K p.far b.far ≡ true) →
         ((b : Pick C) → best ≡ Some b → nearer K p.far b.far ≡ true) × ((q : Pick C) → s ≡ Some q → nearer K p.far q.far ≡ true)
-    both best None h = (h, λ q e. some_none e)
-    both None (Some q) h = ((λ b e. some_none e), h)
+    both best None h = (h, λ q e. cc)
+    both None (Some q) h = ((λ b e. cc), h)
     both (Some b) (Some q) h = go (nearer K b.far q.far) refl h
       where
         go : (t : Bool) → nearer K b.far q.far ≡ t → ((x : Pick C) → cond t (Some b) (Some q) ≡ Some x → nearer K p.far x.far ≡ true) →
