@@ -17,9 +17,6 @@ WantsMore K c a f = (f <ℤ a.lo) ⊎ ((K.le K.zero c ≡ false) × (f <ℤ a.hi
 abbrev pub WantsLess : {C : Type 0} → Kind C → C → Arc C → ℤ → Type 0
 WantsLess K c a f = (a.hi <ℤ f) ⊎ ((K.le c K.zero ≡ false) × (a.lo <ℤ f))
 
-on_off : {X : Type 0} → true ≡ false → X
-on_off e = cc
-
 module _ {C : Type 0} (K : Kind C) (laws : Laws K) where
   room_up : (u d : Bool) (lo hi f : ℤ) → (u ≡ false → d ≡ true) → lo ≤ℤ hi → (f <ℤ lo) ⊎ ((u ≡ false) × (f <ℤ hi)) → f <ℤ cond d hi lo
   room_up u d lo hi f one h w = grind (arith, ints)
@@ -29,7 +26,7 @@ module _ {C : Type 0} (K : Kind C) (laws : Laws K) where
 
   -- it is amiss that way, and short of its limit
   pub more_amiss : (ps : List C) (a : Arc C) (f : ℤ) → a.lo ≤ℤ a.hi → WantsMore K (reduced K ps a) a f → Amiss K ps a true f × (f <ℤ cond (K.le (reduced K ps a) K.zero) a.hi a.lo)
-  more_amiss ps a f h w = (((λ _. side w), on_off), room_up (K.le K.zero (reduced K ps a)) (K.le (reduced K ps a) K.zero) a.lo a.hi f (laws.total K.zero (reduced K ps a)) h w)
+  more_amiss ps a f h w = (((λ _. side w), (λ e. cc)), room_up (K.le K.zero (reduced K ps a)) (K.le (reduced K ps a) K.zero) a.lo a.hi f (laws.total K.zero (reduced K ps a)) h w)
     where
       side : WantsMore K (reduced K ps a) a f → (f <ℤ a.lo) ⊎ (K.le K.zero (reduced K ps a) ≡ false)
       side (inl l) = inl l
