@@ -55,11 +55,11 @@ module _ {C : Type 0} where
   each_set P (b ∷ rest) (f ∷ fs) (suc i) a y (h, hs) (l, e) p = (h, each_set P rest fs i a y hs (omega arith, e) p)
 
   -- by the number that stands there, or 0
-  pub each_getD : (P : Arc C → ℤ → Type 0) (arcs : List (Arc C)) (fs : List ℤ) (i : ℕ) (a : Arc C) → EachArc P arcs fs → IsAt arcs i a → P a (get_or fs i (pos 0))
-  each_getD P [] fs i a h (l, e) = absurd (omega arith)
-  each_getD P (b ∷ rest) [] i a h at = absurd h
-  each_getD P (b ∷ rest) (f ∷ fs) zero a (h, hs) (l, e) = subst (λ z. P z f) (sym e) h
-  each_getD P (b ∷ rest) (f ∷ fs) (suc i) a (h, hs) (l, e) = each_getD P rest fs i a hs (omega arith, e)
+  pub each_get_or : (P : Arc C → ℤ → Type 0) (arcs : List (Arc C)) (fs : List ℤ) (i : ℕ) (a : Arc C) → EachArc P arcs fs → IsAt arcs i a → P a (get_or fs i (pos 0))
+  each_get_or P [] fs i a h (l, e) = absurd (omega arith)
+  each_get_or P (b ∷ rest) [] i a h at = absurd h
+  each_get_or P (b ∷ rest) (f ∷ fs) zero a (h, hs) (l, e) = subst (λ z. P z f) (sym e) h
+  each_get_or P (b ∷ rest) (f ∷ fs) (suc i) a (h, hs) (l, e) = each_get_or P rest fs i a hs (omega arith, e)
 
 pub record Monoid {M : Type 0} (none : M) (plus : M → M → M) : Type 0 where
   pub assoc : (a b c : M) → plus (plus a b) c ≡ plus a (plus b c)
@@ -85,10 +85,10 @@ abbrev pub at_one : ℕ → ℤ → ℕ → ℤ
 at_one j x n = cond (eqb j n) x (pos 0)
 
 module _ {M : Type 0} {none : M} {plus : M → M → M} (monoid : Monoid none plus) where
-  left_comm : (a b c : M) → plus a (plus b c) ≡ plus b (plus a c)
+  pub left_comm : (a b c : M) → plus a (plus b c) ≡ plus b (plus a c)
   left_comm a b c = sym (monoid.assoc a b c) ∙ ap (λ x. plus x c) (monoid.comm a b) ∙ monoid.assoc b a c
 
-  swap : (a b c d : M) → plus (plus a b) (plus c d) ≡ plus (plus a c) (plus b d)
+  pub swap : (a b c d : M) → plus (plus a b) (plus c d) ≡ plus (plus a c) (plus b d)
   swap a b c d = simp (monoid.assoc, left_comm)
 
   module _ {C : Type 0} where

@@ -12,13 +12,13 @@ use Rattle.networks.specs.Nets.{Net, shown}
 use Rattle.flows.specs.Fits.{Fit, Fitting, Small}
 use Rattle.flows.specs.Stops.{stop_unless, or_else, counts_fit, lengths_fit, ends_fit, arc_stop, arcs_stop, needs_stop, first_stop}
 
--- a test that stopped nothing was passed
+-- a test that stopped nothing was passed; and neither of two stops came where none is the first
 pub passed : (b : Bool) (n k : ℕ) (later : Option Told) → stop_unless b n k later ≡ None → (b ≡ true) × (later ≡ None)
 passed b n k later e = (grind arith, grind arith)
 
 pub neither : (o later : Option Told) → or_else o later ≡ None → (o ≡ None) × (later ≡ None)
 neither None later e = (refl, e)
-neither (Some s) later e = absurd (let z : ◌≡◌ {A = ℕ} 0 1 = cc in omega arith)
+neither (Some s) later e = cc
 
 pub ends_hold : {C : Type 0} (N : ℕ) (x : Arc C) → ends_fit N x ≡ true → Ends N x
 ends_hold N x e = (grind arith, grind arith, grind arith, grind arith)

@@ -3,6 +3,7 @@ use Rattle.std.proofs.Common.{◌≡◌, ℕ, zero, suc, ◌+◌, ◌≤◌, tru
 use lib.IntN.{+ℤ_idl, +ℤ_invl, suc_ℤ, suc_ℤ-+ℤ}
 use borrow.Author.Differences.{ints}
 use Rattle.costs.specs.Kinds.{Kind, Laws, sums, copies, minus}
+use Rattle.flows.proofs.ArcSums.{costs, left_comm as monoid_left_comm, swap as monoid_swap}
 
 -- a fact that holds of 0, and of k where of k + 1 and the other way, holds of every integer
 by_steps : (P : ℤ → Type 0) → P (pos 0) → ((k : ℤ) → P k → P (suc_ℤ k)) → ((k : ℤ) → P (suc_ℤ k) → P k) → (k : ℤ) → P k
@@ -10,9 +11,6 @@ by_steps P z u d (pos zero) = z
 by_steps P z u d (pos (suc n)) = u (pos n) (by_steps P z u d (pos n))
 by_steps P z u d (negsuc zero) = d (negsuc zero) z
 by_steps P z u d (negsuc (suc n)) = d (negsuc (suc n)) (by_steps P z u d (negsuc n))
-
-pub off_on : {X : Type 0} → false ≡ true → X
-off_on e = absurd (let z : ◌≡◌ {A = ℕ} 0 1 = cc in omega arith)
 
 module _ {C : Type 0} (K : Kind C) (laws : Laws K) where
   pub assoc : (a b c : C) → K.plus (K.plus a b) c ≡ K.plus a (K.plus b c)
@@ -28,10 +26,10 @@ module _ {C : Type 0} (K : Kind C) (laws : Laws K) where
   right a = comm a K.zero ∙ left a
 
   pub left_comm : (a b c : C) → K.plus a (K.plus b c) ≡ K.plus b (K.plus a c)
-  left_comm a b c = sym (assoc a b c) ∙ ap (λ x. K.plus x c) (comm a b) ∙ assoc b a c
+  left_comm = monoid_left_comm (costs K laws)
 
   pub swap : (a b c d : C) → K.plus (K.plus a b) (K.plus c d) ≡ K.plus (K.plus a c) (K.plus b d)
-  swap a b c d = simp (assoc, left_comm)
+  swap = monoid_swap (costs K laws)
 
   pub right_comm : (a b c : C) → K.plus (K.plus a b) c ≡ K.plus (K.plus a c) b
   right_comm a b c = simp (assoc, comm)

@@ -16,7 +16,6 @@ use Rattle.flows.specs.Figures.{RightFlow, RightCut, RightVerdict, Right, AllRig
 use Rattle.flows.specs.Stops.{ends_fit}
 use Rattle.flows.proofs.Fitted.{ends_hold}
 use Rattle.flows.proofs.Needing.{imbalances_long, imbalances_meet}
-use Rattle.flows.proofs.Group.{off_on}
 use Rattle.flows.proofs.Least.{kilter_is_least, kilter_within}
 use Rattle.flows.proofs.Cuts.{cut_shows_none}
 
@@ -66,8 +65,8 @@ module _ {C : Type 0} where
 
     calm_pass : (ps : List C) (arcs : List (Arc C)) (fs : List ℤ) → calm ps arcs fs ≡ true → EachArc (InKilter K ps) arcs fs
     calm_pass ps [] [] e = tt
-    calm_pass ps [] (f ∷ fs) e = off_on e
-    calm_pass ps (a ∷ rest) [] e = off_on e
+    calm_pass ps [] (f ∷ fs) e = cc
+    calm_pass ps (a ∷ rest) [] e = cc
     calm_pass ps (a ∷ rest) (f ∷ fs) e = (grind arith, calm_pass ps rest fs (grind arith))
 
     abbrev flow_passes : ℕ → List (Arc C) → List ℤ → List ℤ → C → List C → Bool

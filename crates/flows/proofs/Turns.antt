@@ -1,7 +1,9 @@
 -- Arcs in turn: the next one is the first of those left.
-use Rattle.std.proofs.Common.{◌≡◌, ℕ, suc, ◌+◌, ◌<◌, ◌≤◌, true, ◌⊎◌, List, [], ◌∷◌, length, get_or, drop, ℤ, pos, nat_abs, Some, None, Option, refl, ap, subst, inl, inr, arith}
+use Rattle.std.proofs.Common.{◌≡◌, ℕ, suc, ◌+◌, ◌<◌, ◌≤◌, true, ◌⊎◌, List, [], ◌∷◌, length, get_or, drop, ℤ, pos, nat_abs, Some, None, Option, sym, refl, ap, ◌∙◌, subst, inl, inr, arith}
 use Rattle.std.specs.Prelude.{MatchOption}
 use Rattle.std.specs.Option.{is_some}
+use Rattle.std.specs.Iterator.{Yields, YieldsFirst}
+use Rattle.std.specs.List.{AllByRecursion, FoldsTo}
 use Rattle.networks.specs.declared.network.Arc.{Arc}
 use Rattle.networks.specs.Nets.{Net, arc_at, shown}
 use Rattle.networks.proofs.Shown.{never_absent, arc_first}
@@ -37,3 +39,13 @@ none_left arcs flow (inr (b, e)) = inr e.0
 -- the flows after the first are within the limits too
 pub small_rest : {flow fs : List ℤ} {f : ℤ} → flow ≡ f ∷ fs → Small flow → Small fs
 small_rest {flow} {fs} {f} e small i = subst (λ xs. nat_abs (get_or xs (suc i) (pos 0)) ≤ flow_limit) e (small (suc i))
+
+-- what holds of all items holds of those that are left
+pub left_all : {S X : Type 0} (left : S → List X) (P : X → Type 0) (xs : List X) (s t : S) → Yields (YieldsFirst left) s xs t → AllByRecursion P (left s) → AllByRecursion P (left t)
+left_all left P [] s t e all = subst (λ z. AllByRecursion P (left z)) e all
+left_all left P (x ∷ xs) s t (j, a, y) all = let r : AllByRecursion P (x ∷ left j) = subst (AllByRecursion P) a all in left_all left P xs j t y r.1
+
+-- turns of a fold that leave what they hold as it is
+pub held_same : {F B X : Type 0} (turn : F × B → X → F × B → Type 0) (xs : List X) (p q : F × B) → FoldsTo turn p xs q → ((i j : F × B) (x : X) → turn i x j → j.0 ≡ i.0) → q.0 ≡ p.0
+held_same turn [] p q e same = ap (λ z. z.0) (sym e)
+held_same turn (x ∷ xs) p q (i, b, f) same = held_same turn xs i q f same ∙ same p i x b

@@ -5,7 +5,7 @@ use Rattle.costs.specs.Kinds.{Kind, Laws}
 use Rattle.networks.specs.declared.network.Arc.{Arc}
 use Rattle.flows.specs.Flows.{Within}
 use Rattle.flows.specs.Kilter.{reduced, out_of_kilter, kilter_number}
-use Rattle.flows.proofs.Group.{off_on, le_refl}
+use Rattle.flows.proofs.Group.{le_refl}
 use Rattle.flows.proofs.Numbers.{number_zero, zero_number}
 use Rattle.flows.proofs.Rooms.{Amiss}
 
@@ -17,9 +17,6 @@ WantsMore K c a f = (f <ℤ a.lo) ⊎ ((K.le K.zero c ≡ false) × (f <ℤ a.hi
 abbrev pub WantsLess : {C : Type 0} → Kind C → C → Arc C → ℤ → Type 0
 WantsLess K c a f = (a.hi <ℤ f) ⊎ ((K.le c K.zero ≡ false) × (a.lo <ℤ f))
 
-on_off : {X : Type 0} → true ≡ false → X
-on_off e = off_on (sym e)
-
 module _ {C : Type 0} (K : Kind C) (laws : Laws K) where
   room_up : (u d : Bool) (lo hi f : ℤ) → (u ≡ false → d ≡ true) → lo ≤ℤ hi → (f <ℤ lo) ⊎ ((u ≡ false) × (f <ℤ hi)) → f <ℤ cond d hi lo
   room_up u d lo hi f one h w = grind (arith, ints)
@@ -29,14 +26,14 @@ module _ {C : Type 0} (K : Kind C) (laws : Laws K) where
 
   -- it is amiss that way, and short of its limit
   pub more_amiss : (ps : List C) (a : Arc C) (f : ℤ) → a.lo ≤ℤ a.hi → WantsMore K (reduced K ps a) a f → Amiss K ps a true f × (f <ℤ cond (K.le (reduced K ps a) K.zero) a.hi a.lo)
-  more_amiss ps a f h w = (((λ _. side w), on_off), room_up (K.le K.zero (reduced K ps a)) (K.le (reduced K ps a) K.zero) a.lo a.hi f (laws.total K.zero (reduced K ps a)) h w)
+  more_amiss ps a f h w = (((λ _. side w), (λ e. cc)), room_up (K.le K.zero (reduced K ps a)) (K.le (reduced K ps a) K.zero) a.lo a.hi f (laws.total K.zero (reduced K ps a)) h w)
     where
       side : WantsMore K (reduced K ps a) a f → (f <ℤ a.lo) ⊎ (K.le K.zero (reduced K ps a) ≡ false)
       side (inl l) = inl l
       side (inr (u, _)) = inr u
 
   pub less_amiss : (ps : List C) (a : Arc C) (f : ℤ) → a.lo ≤ℤ a.hi → WantsLess K (reduced K ps a) a f → Amiss K ps a false f × (cond (K.le K.zero (reduced K ps a)) a.lo a.hi <ℤ f)
-  less_amiss ps a f h w = ((off_on, (λ _. side w)), room_down (K.le K.zero (reduced K ps a)) (K.le (reduced K ps a) K.zero) a.lo a.hi f (laws.total (reduced K ps a) K.zero) h w)
+  less_amiss ps a f h w = (((λ e. cc), (λ _. side w)), room_down (K.le K.zero (reduced K ps a)) (K.le (reduced K ps a) K.zero) a.lo a.hi f (laws.total (reduced K ps a) K.zero) h w)
     where
       side : WantsLess K (reduced K ps a) a f → (a.hi <ℤ f) ⊎ (K.le (reduced K ps a) K.zero ≡ false)
       side (inl l) = inl l

@@ -40,15 +40,6 @@ fn balanced(sum: i64, leaves: i64, enters: i64) -> i64
     sum + leaves - enters
 }
 
-// The imbalance of a node where no flow is beyond the limits, as a need.
-fn need<N: Network>(net: &N, flow: &[i32], node: usize) -> i32
-    requires few { length flow.now ≤ most_arcs }
-    requires small { Small flow.now }
-    ensures { result ≡ imbalance_of (shown (N.meaning net.now)) flow.now node }
-{
-    imbalance(net, flow, node) as i32
-}
-
 // Writes the imbalance of node k + 1 at place k.
 pub fn imbalances<N: Network>(net: &N, flow: &[i32], needs: &mut [i32])
     requires few { length flow.now ≤ most_arcs }
@@ -56,6 +47,6 @@ pub fn imbalances<N: Network>(net: &N, flow: &[i32], needs: &mut [i32])
     ensures { needs.new ≡ imbalances_from 1 (length needs.old) (shown (N.meaning net.now)) flow.now }
 {
     for (i, written) in needs.iter_mut().enumerate() {
-        *written = need(net, flow, i + 1);
+        *written = imbalance(net, flow, i + 1) as i32;
     }
 }

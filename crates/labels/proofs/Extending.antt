@@ -1,6 +1,6 @@
 -- What labelling over one arc gives.
 use Rattle.std.proofs.Common.{◌≡◌, ℕ, ◌<◌, ◌≤◌, Bool, true, false, cond, eqb, List, length, get_or, ℤ, pos, Some, None, refl, ◌∙◌, subst, arith}
-use Rattle.std.proofs.lemmas.Bool.{eqb-true, true≢false}
+use Rattle.std.proofs.lemmas.Bool.{eqb-true}
 use Rattle.costs.specs.Kinds.{Kind}
 use Rattle.networks.specs.Nets.{IsAt}
 use Rattle.networks.specs.declared.network.Arc.{Arc}
@@ -20,18 +20,15 @@ use Rattle.labels.proofs.More.{counts, room, whole_more, grown_more, linked_more
 pub outward_is : {C : Type 0} (a : Arc C) (n : ℕ) (ls : Labels) (along : Bool) → Some along ≡ outward_at a n ls → (near a along ≡ n) × (place_of ls (far a along) ≡ 0)
 outward_is a n ls along e = go (eqb a.from n) (eqb a.to n) (eqb (place_of ls a.to) 0) (eqb (place_of ls a.from) 0) refl refl refl refl along e
   where
-    never : {X : Type 0} (x : X) → Some x ≡ None → ⊥
-    never x e = let z : ◌≡◌ {A = ℕ} 0 1 = cc in omega arith
-
     go : (f t p q : Bool) → eqb a.from n ≡ f → eqb a.to n ≡ t → eqb (place_of ls a.to) 0 ≡ p → eqb (place_of ls a.from) 0 ≡ q → (along : Bool) →
         Some along ≡ cond f (cond p (Some true) None) (cond t (cond q (Some false) None) None) → (near a along ≡ n) × (place_of ls (far a along) ≡ 0)
     go true t true q ef et ep eq true e = (eqb-true a.from n ef, eqb-true (place_of ls a.to) 0 ep)
-    go true t true q ef et ep eq false e = absurd (let z : true ≡ false = cc in true≢false z)
-    go true t false q ef et ep eq along e = absurd (never along e)
+    go true t true q ef et ep eq false e = cc
+    go true t false q ef et ep eq along e = cc
     go false true p true ef et ep eq false e = (eqb-true a.to n et, eqb-true (place_of ls a.from) 0 eq)
-    go false true p true ef et ep eq true e = absurd (let z : true ≡ false = cc in true≢false z)
-    go false true p false ef et ep eq along e = absurd (never along e)
-    go false false p q ef et ep eq along e = absurd (never along e)
+    go false true p true ef et ep eq true e = cc
+    go false true p false ef et ep eq along e = cc
+    go false false p q ef et ep eq along e = cc
 
 -- what is seen of an arc may move as the arc does
 pub seen_may : {C : Type 0} (K : Kind C) (arcs : List (Arc C)) (flow : List ℤ) (prices : List C) (i : ℕ) (s : Seen C) (a : Arc C) (along : Bool) → Sees K arcs flow prices i s → s.arc ≡ a → may_at K s.cost s.arc along s.flow ≡ true →

@@ -1,11 +1,13 @@
 -- Rooms of steps, and flows sent over them.
-use Rattle.std.proofs.Common.{◌≡◌, ℕ, zero, suc, ◌+◌, ◌<◌, ◌≤◌, Bool, true, false, cond, List, [], ◌∷◌, length, get_or, take, drop, set, ℤ, pos, ◌-ℤ◌, nat_abs, ◌≤ℤ◌, sym, refl, ap, ◌∙◌, subst, arith, is_lt, Less, Greater, Equal, int_cmp}
-use Rattle.std.specs.Ordering.{ord_min}
+use Rattle.std.proofs.Common.{◌≡◌, ℕ, ◌+◌, ◌<◌, ◌≤◌, Bool, true, false, cond, List, [], ◌∷◌, length, get_or, drop, set, ℤ, pos, ◌-ℤ◌, nat_abs, ◌≤ℤ◌, Iter, Option, sym, refl, ap, ◌∙◌, subst, arith}
 use lib.Signed.{lt_z}
 use borrow.Author.Differences.{ints}
-use Rattle.std.specs.List.{AllByRecursion}
+use Rattle.std.specs.List.{AllByRecursion, FoldsTo}
+use Rattle.std.specs.Prelude.{MatchOption}
+use Rattle.std.specs.Iterator.{Yields}
+use Rattle.std.specs.Int.{int_min}
+use denote.Ref.{Bor}
 use Rattle.std.proofs.lemmas.List.{drop_more}
-use Rattle.std.proofs.ByRecursion.{All-get_or, All-more, All-weaker}
 use Rattle.costs.specs.Kinds.{Kind}
 use Rattle.flows.specs.Kilter.{reduced}
 use Rattle.networks.specs.Nets.{IsAt}
@@ -15,7 +17,7 @@ use Rattle.flows.specs.Views.{Sees}
 use Rattle.flows.specs.declared.views.Seen.{Seen}
 use Rattle.flows.specs.declared.steps.Step.{Step}
 use Rattle.flows.specs.Fits.{Fit}
-use Rattle.flows.proofs.ArcSums.{same_at}
+use Rattle.flows.proofs.ArcSums.{same_at, at_place}
 use Rattle.labels.specs.Moves.{may, limit_at, room_at}
 use Rattle.labels.specs.Ways.{RoomIs, Moving, FitsIn, Steady}
 
@@ -64,37 +66,39 @@ lesser_both a b p q = grind (arith, ints)
 le_trans : (a b c : ℤ) → a ≤ℤ b → b ≤ℤ c → a ≤ℤ c
 le_trans a b c p q = omega (arith, ints)
 
--- the lesser of two
-pub min_is : (a b : ℤ) → ord_min int_cmp a b ≡ cond (lt_z b a) b a
-min_is a b = go (lt_z b a) (lt_z a b)
-  where
-    go : (p q : Bool) → cond (is_lt (cond p Less (cond q Greater Equal))) b a ≡ cond p b a
-    go true q = refl
-    go false true = refl
-    go false false = refl
+-- what iterators over steps go by
+abbrev pub next_step : Iter Step → Option (Bor Step) → Iter Step → Type 0
+next_step i r j = MatchOption r ((length i.rest.now ≡ 0) × (j ≡ i)) (λ (x : Bor Step). i.rest.now ≡ x.now ∷ j.rest.now)
 
--- one step more
-pub least_more : {C : Type 0} (K : Kind C) (arcs : List (Arc C)) (flow : List ℤ) (prices : List C) (steps : List Step) (i : ℕ) (d : Step) (least x r : ℤ) → i < length steps → length flow ≡ length arcs →
-    AllByRecursion (Moving K arcs flow prices) steps → pos 1 ≤ℤ least → least ≤ℤ pos 2000000 → AllByRecursion (FitsIn K arcs flow prices least) (take i steps) → RoomIs K arcs flow prices (get_or steps i d) x → r ≡ cond (lt_z x least) x least →
-    (pos 1 ≤ℤ r) × (r ≤ℤ pos 2000000) × AllByRecursion (FitsIn K arcs flow prices r) (take (i + 1) steps)
-least_more {C} K arcs flow prices steps i d least x r h l moving low high all is e =
-    let m = All-get_or (Moving K arcs flow prices) steps i d h moving in
-    let s : Step = get_or steps i d in
-    let a : Arc C = (at arcs s.arc m.0).0 in
-    let there : IsAt arcs s.arc a = (at arcs s.arc m.0).1 in
-    let some : pos 1 ≤ℤ x = subst (λ z. pos 1 ≤ℤ z) (sym (is a there)) (room_some K prices a s.along (get_or flow s.arc (pos 0)) (m.1 a there)) in
-    subst (λ z. (pos 1 ≤ℤ z) × (z ≤ℤ pos 2000000) × AllByRecursion (FitsIn K arcs flow prices z) (take (i + 1) steps)) (sym e) (
-      lesser_both least x low some,
-      le_trans (cond (lt_z x least) x least) least (pos 2000000) (lesser_first least x) high,
-      All-more (FitsIn K arcs flow prices (cond (lt_z x least) x least)) steps i d h
-          (All-weaker (FitsIn K arcs flow prices least) (FitsIn K arcs flow prices (cond (lt_z x least) x least)) (λ t f b bt. le_trans (cond (lt_z x least) x least) least (room_at K prices b t.along (get_or flow t.arc (pos 0))) (lesser_first least x) (f b bt)) (take i steps) all)
-          (λ b bt. subst (λ z. cond (lt_z x least) x least ≤ℤ z) (is b bt) (lesser_second least x)),
-    )
-  where
-    at : (xs : List (Arc C)) (j : ℕ) → j < length xs → (a : Arc C) × IsAt xs j a
-    at [] j h = absurd (omega arith)
-    at (y ∷ ys) zero h = (y, (h, refl))
-    at (y ∷ ys) (suc j) h = let r = at ys j (omega arith) in (r.0, (h, r.1.1))
+length_none : {X : Type 0} (xs : List X) → length xs ≡ 0 → xs ≡ []
+length_none [] e = refl
+length_none (x ∷ xs) e = absurd (omega arith)
+
+le_same : (a : ℤ) → a ≤ℤ a
+le_same a = omega (arith, ints)
+
+-- what holds of all steps holds of those that are left
+pub left_all : (P : Step → Type 0) (xs : List (Bor Step)) (s t : Iter Step) → Yields next_step s xs t → AllByRecursion P s.rest.now → AllByRecursion P t.rest.now
+left_all P [] s t e all = subst (λ (z : Iter Step). AllByRecursion P z.rest.now) e all
+left_all P (x ∷ xs) s t (j, a, y) all = let r : AllByRecursion P (x.now ∷ j.rest.now) = subst (AllByRecursion P) a all in left_all P xs j t y r.1
+
+-- the steps in turn, each with its room
+pub least_turns : {C F : Type 0} (K : Kind C) (arcs : List (Arc C)) (flow : List ℤ) (prices : List C) (turn : F × ℤ → Bor Step → F × ℤ → Type 0) (xs : List (Bor Step)) (s t : Iter Step) (p q : F × ℤ) → Yields next_step s xs t → length t.rest.now ≡ 0 → FoldsTo turn p xs q →
+    ((i j : F × ℤ) (x : Bor Step) → i.0 ≡ p.0 → turn i x j → (j.0 ≡ p.0) × ((a : Arc C) → IsAt arcs x.now.arc a → j.1 ≡ int_min i.1 (room_at K prices a x.now.along (get_or flow x.now.arc (pos 0))))) →
+    AllByRecursion (Moving K arcs flow prices) s.rest.now → pos 1 ≤ℤ p.1 → (pos 1 ≤ℤ q.1) × (q.1 ≤ℤ p.1) × AllByRecursion (FitsIn K arcs flow prices q.1) s.rest.now
+least_turns K arcs flow prices turn [] s t p q e none f tells moving low =
+    let same : q.1 ≡ p.1 = ap (λ z. z.1) (sym f) in
+    let done : s.rest.now ≡ [] = ap (λ (z : Iter Step). z.rest.now) e ∙ length_none t.rest.now none in
+    (subst (λ z. pos 1 ≤ℤ z) (sym same) low, subst (λ z. z ≤ℤ p.1) (sym same) (le_same p.1), subst (AllByRecursion (FitsIn K arcs flow prices q.1)) (sym done) tt)
+least_turns K arcs flow prices turn (x ∷ xs) s t p q (j, a, y) none (i, b, f) tells moving low =
+    let m : AllByRecursion (Moving K arcs flow prices) (x.now ∷ j.rest.now) = subst (AllByRecursion (Moving K arcs flow prices)) a moving in
+    let told = tells p i x refl b in
+    let there = at_place arcs x.now.arc m.0.0 in
+    let some = room_some K prices there.0 x.now.along (get_or flow x.now.arc (pos 0)) (m.0.1 there.0 there.1) in
+    let e = told.1 there.0 there.1 in
+    let k = least_turns K arcs flow prices turn xs j t i q y none f (λ k l z o h. let r = tells k l z (o ∙ told.0) h in (r.0 ∙ sym told.0, r.1)) m.1 (subst (λ z. pos 1 ≤ℤ z) (sym e) (lesser_both p.1 _ low some)) in
+    let first : q.1 ≤ℤ p.1 = le_trans q.1 i.1 p.1 k.1 (subst (λ z. z ≤ℤ p.1) (sym e) (lesser_first p.1 _)) in
+    (k.0, first, subst (AllByRecursion (FitsIn K arcs flow prices q.1)) (sym a) ((λ c at. le_trans q.1 i.1 _ k.1 (subst (λ z. z ≤ℤ room_at K prices c x.now.along (get_or flow x.now.arc (pos 0))) (sym (told.1 c at)) (lesser_second p.1 _))), k.2))
 
 -- the step at i, and those after it
 pub steady_here : (x : ℤ) (steps : List Step) (i : ℕ) (d : Step) (fs : List ℤ) → i < length steps → Steady x (drop i steps) fs → Steady x (get_or steps i d ∷ drop (i + 1) steps) fs

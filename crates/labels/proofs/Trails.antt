@@ -1,5 +1,5 @@
 -- The way back by the labels is a lap with the chosen arc.
-use Rattle.std.proofs.Common.{◌≡◌, ℕ, zero, suc, ◌+◌, ◌<◌, ◌≤◌, Bool, true, false, cond, List, [], ◌∷◌, map, length, get_or, set, ℤ, pos, negsuc, ◌+ℤ◌, ◌-◌, ◌-ℤ◌, neg_ℤ, nat_abs, nat_lt, Some, ◌≤ℤ◌, ◌<ℤ◌, sym, refl, ap, ◌∙◌, subst, subst₂, ⊎_elim, arith, length-set}
+use Rattle.std.proofs.Common.{◌≡◌, ℕ, ◌+◌, ◌<◌, ◌≤◌, Bool, true, false, cond, List, [], ◌∷◌, map, length, get_or, set, ℤ, pos, negsuc, ◌+ℤ◌, ◌-◌, ◌-ℤ◌, neg_ℤ, nat_abs, nat_lt, Some, ◌≤ℤ◌, ◌<ℤ◌, sym, refl, ap, ◌∙◌, subst, subst₂, ⊎_elim, arith, length-set}
 use borrow.Author.Differences.{ints}
 use Rattle.std.specs.List.{AllByRecursion}
 use Rattle.std.proofs.lemmas.List.{get_or-set_same, get_or-set_other, get_or_past}
@@ -7,12 +7,12 @@ use Rattle.std.proofs.lemmas.Bool.{cases_eq, cases_lt, ltb-true}
 use Rattle.std.proofs.lemmas.Option.{cond_some}
 use Rattle.costs.specs.Kinds.{Kind, Laws}
 use Rattle.flows.specs.Kilter.{reduced}
-use Rattle.networks.specs.Nets.{IsAt}
 use Rattle.flows.specs.Fits.{Fit, Fitting, Small}
 use Rattle.flows.specs.Flows.{Ends}
 use Rattle.flows.specs.Laps.{Leads, near, first, Chain, Apart, moved, sent}
 use Rattle.networks.specs.declared.network.Arc.{Arc}
 use Rattle.flows.specs.declared.steps.Step.{Step}
+use Rattle.flows.proofs.ArcSums.{at_place}
 use Rattle.flows.proofs.Chains.{lap_apart}
 use Rattle.flows.proofs.Lapping.{length_sent}
 use Rattle.flows.proofs.Rooms.{Room, HasRoom, roomy_from_start, lap_better, arc_falls}
@@ -27,7 +27,7 @@ room_from : {C : Type 0} (K : Kind C) (laws : Laws K) (N : ℕ) (prices : List C
 room_from K laws N prices arcs a true f x fit low h = record {
   fits = fit.order;
   if_along = λ _. (more f x low, upto f x (limit_at K (reduced K prices a) a true) h);
-  if_against = λ e. absurd (let z : ◌≡◌ {A = ℕ} 0 1 = cc in omega arith);
+  if_against = λ e. cc;
 }
   where
     more : (f x : ℤ) → pos 1 ≤ℤ x → f <ℤ (f +ℤ x)
@@ -37,7 +37,7 @@ room_from K laws N prices arcs a true f x fit low h = record {
     upto f x l h = omega (arith, ints)
 room_from K laws N prices arcs a false f x fit low h = record {
   fits = fit.order;
-  if_along = λ e. absurd (let z : ◌≡◌ {A = ℕ} 0 1 = cc in omega arith);
+  if_along = λ e. cc;
   if_against = λ _. (less f x low, downto f x (limit_at K (reduced K prices a) a false) h);
 }
   where
@@ -59,11 +59,6 @@ room_small K N prices a false f x fit low h s = go (K.le K.zero (reduced K price
     go : (b : Bool) → x ≤ℤ (f -ℤ cond b a.lo a.hi) → nat_abs (f +ℤ neg_ℤ x) ≤ 1000000
     go true q = let k = fit.low in omega (arith, ints)
     go false q = let k = fit.high in omega (arith, ints)
-
-arc_there : {X : Type 0} (xs : List X) (j : ℕ) → j < length xs → (a : X) × IsAt xs j a
-arc_there [] j h = absurd (omega arith)
-arc_there (y ∷ ys) zero h = (y, (h, refl))
-arc_there (y ∷ ys) (suc j) h = let r = arc_there ys j (omega arith) in (r.0, (h, r.1.1))
 
 -- the chosen step sets out from a node
 pub sought_there : {C : Type 0} (K : Kind C) (N : ℕ) (arcs : List (Arc C)) (flow : List ℤ) (prices : List C) (s : Step) (n : ℕ) → Fitting K N arcs → Chosen K arcs flow prices s n → (1 ≤ s.node) × (s.node ≤ N)
@@ -100,7 +95,7 @@ module _ {C : Type 0} (K : Kind C) (laws : Laws K) (arcs : List (Arc C)) (flow :
   steady_from : (x : ℤ) (steps : List Step) (fs : List ℤ) → length fs ≡ length arcs → pos 1 ≤ℤ x → Small fs → Apart (map (λ s. s.arc) steps) → AllByRecursion (λ s. s.arc < length arcs) steps → AllByRecursion (FitsIn K arcs fs prices x) steps → Steady x steps fs × Small (sent x steps fs)
   steady_from x [] fs l low small ap' is all = (tt, small)
   steady_from x (s ∷ rest) fs l low small (n, ns) (i, is) (h, hs) =
-      let r = arc_there arcs s.arc i in
+      let r = at_place arcs s.arc i in
       let m : nat_abs (moved x s fs) ≤ 1000000 = room_small K (length prices) prices r.0 s.along (get_or fs s.arc (pos 0)) x (fitting s.arc r.0 r.1) low (h r.0 r.1) (small s.arc) in
       let spot : s.arc < length fs = omega arith in
       let k = steady_from x rest (set fs s.arc (moved x s fs)) (length-set fs s.arc (moved x s fs) ∙ l) low (set_small fs s.arc (moved x s fs) spot small m) ns is (kept (moved x s fs) s.arc rest n hs) in
@@ -178,7 +173,7 @@ module _ {C : Type 0} (K : Kind C) (laws : Laws K) (arcs : List (Arc C)) (flow :
     apart = lap_apart arcs s rest chain nodes (λ t e q. only rest (way_other s.arc ls good k place rest 0 way) t e (sym q))
       where
         only : (ts : List Step) → AllByRecursion (λ t. ¬ (t.arc ≡ s.arc)) ts → (t : Step) → ts ≡ t ∷ [] → t.arc ≡ s.arc → ⊥
-        only [] o t e q = let z : ◌≡◌ {A = ℕ} 0 1 = cc in omega arith
+        only [] o t e q = cc
         only (u ∷ us) (o, os) t e q = let same : u ≡ t = cc in o (ap (λ z. z.arc) same ∙ q)
 
     inside : (ts : List Step) → AllByRecursion (Moving K arcs flow prices) ts → AllByRecursion (λ t. t.arc < length arcs) ts

@@ -11,7 +11,7 @@ use crate::moves::may;
 use arrayvec::ArrayVec;
 use costs::CostKind;
 use flows::{Step, arcs_of, far_end};
-use networks::{Arc, Network};
+use networks::{Arc, MOST_NODES, Network};
 
 // A labelled node: the place of the node it was labelled from, and the step that leads here from there.
 #[derive(Clone, Copy, Default)]
@@ -24,8 +24,8 @@ pub struct Entry {
 // The labelled nodes in the order of their labelling, and for each node its place there, counted from 1, or 0.
 #[derive(Drop)]
 pub struct Labels {
-    pub places: [usize; 256],
-    pub entries: ArrayVec<Entry, 256>,
+    pub places: [usize; MOST_NODES],
+    pub entries: ArrayVec<Entry, MOST_NODES>,
 }
 
 impl Labels {
@@ -35,7 +35,7 @@ impl Labels {
         ensures { Begun source result }
     {
         let mut labels = Labels {
-            places: [0; 256],
+            places: [0; MOST_NODES],
             entries: ArrayVec::new(),
         };
         labels.push(Entry {

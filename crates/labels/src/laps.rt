@@ -2,6 +2,7 @@
 
 ghost use Rattle.std.specs.Prelude.{◌≡◌, ℕ, ◌<◌, ◌≤◌, length, ℤ, pos, ◌-ℤ◌, ◌≤ℤ◌, if◌then◌else◌, slice_set, unsigned_abs};
 ghost use Rattle.std.specs.List.{AllByRecursion};
+ghost use Rattle.networks.specs.Limits.{flow_limit};
 ghost use Rattle.networks.specs.Nets.{shown};
 ghost use Rattle.flows.specs.Fits.{Fitting, Small, Bounded, price_limit};
 ghost use Rattle.flows.specs.Laps.{moved, sent};
@@ -12,10 +13,10 @@ use crate::labelling::Labels;
 use crate::moves::limit;
 use arrayvec::ArrayVec;
 use flows::{Step, View};
-use networks::Network;
+use networks::{Bounds, MOST_NODES, Network};
 
 // The chosen step, and then the steps from the source to the node at a place.
-fn trace(labels: &Labels, place: usize, chosen: Step) -> ArrayVec<Step, 256>
+fn trace(labels: &Labels, place: usize, chosen: Step) -> ArrayVec<Step, MOST_NODES>
     requires back { Backward labels.now }
     requires few { count labels.now ≤ 256 }
     requires place { place < count labels.now }
@@ -35,8 +36,8 @@ fn trace(labels: &Labels, place: usize, chosen: Step) -> ArrayVec<Step, 256>
 
 // What is left from f up to the limit, or down to it.
 fn span(limit: i32, f: i32, along: bool) -> i32
-    requires limit { unsigned_abs limit ≤ 1000000 }
-    requires f { unsigned_abs f ≤ 1000000 }
+    requires limit { unsigned_abs limit ≤ flow_limit }
+    requires f { unsigned_abs f ≤ flow_limit }
     ensures { result ≡ (if along then limit -ℤ f else f -ℤ limit) }
 {
     if along { limit - f } else { f - limit }
@@ -60,17 +61,15 @@ fn least_room<N: Network>(view: &View<N>, steps: &[Step]) -> i32
     ensures high { result ≤ℤ pos 2000000 }
     ensures least { AllByRecursion (FitsIn N.Cost.CostKind.kind (shown (N.meaning view.now.net.now)) view.now.flow.now view.now.prices.now result) steps.now }
 {
-    let mut least = 2_000_000;
-    for step in steps {
-        least = least.min(room(view, *step));
-    }
-    least
+    steps.iter().fold(2 * Bounds::LIMIT, |least, step| {
+        least.min(room(view, *step))
+    })
 }
 
 // Moves the flow of the step's arc by an amount.
 fn shift(flow: &mut [i32], step: Step, amount: i32)
     requires arc { step.arc < length flow.old }
-    requires small { unsigned_abs (moved amount step flow.old) ≤ 1000000 }
+    requires small { unsigned_abs (moved amount step flow.old) ≤ flow_limit }
     ensures { flow.new ≡ slice_set flow.old step.arc (moved amount step flow.old) }
 {
     let f = flow[step.arc];

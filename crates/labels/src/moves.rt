@@ -12,12 +12,8 @@ pub fn limit<C: CostKind>(seen: Seen<C>, along: bool) -> i32
 {
     let Seen { arc, cost, .. } = seen;
     if along {
-        if cost.at_most(C::zero()) {
-            arc.hi
-        } else {
-            arc.lo
-        }
-    } else if C::zero().at_most(cost) {
+        if cost <= C::zero() { arc.hi } else { arc.lo }
+    } else if cost >= C::zero() {
         arc.lo
     } else {
         arc.hi

@@ -1,6 +1,7 @@
 -- The nearest of the slacks.
-use Rattle.std.proofs.Common.{◌≡◌, ℕ, Bool, true, false, cond, List, [], ◌∷◌, Some, None, Option, refl, subst, arith}
-use Rattle.std.specs.List.{AllByRecursion}
+use Rattle.std.proofs.Common.{◌≡◌, Bool, true, false, cond, List, [], ◌∷◌, Some, None, Option, sym, refl, ap, ◌∙◌, subst, arith}
+use Rattle.std.specs.List.{AllByRecursion, FoldsTo}
+use Rattle.std.specs.Iterator.{Yields, YieldsFirst}
 use Rattle.networks.specs.declared.network.Arc.{Arc}
 use Rattle.costs.specs.Kinds.{Kind, Laws}
 use Rattle.flows.specs.Prices.{nearer}
@@ -8,16 +9,13 @@ use Rattle.flows.proofs.Nearer.{nearer_total, nearer_trans, nearer_refl}
 use Rattle.tidy.specs.declared.picks.Pick.{Pick}
 use Rattle.tidy.specs.Picks.{slack_of, chosen, nearest_of}
 
-pub some_none : {X Y : Type 0} {x : X} → None ≡ Some x → Y
-some_none e = absurd (let z : ◌≡◌ {A = ℕ} 0 1 = cc in omega arith)
-
 module _ {C : Type 0} (K : Kind C) (laws : Laws K) where
   module _ (p : Pick C) where
     -- p is as near as what was the best, and as one more
     both : (best s : Option (Pick C)) → ((b : Pick C) → chosen K best s ≡ Some b → nearer K p.far b.far ≡ true) →
         ((b : Pick C) → best ≡ Some b → nearer K p.far b.far ≡ true) × ((q : Pick C) → s ≡ Some q → nearer K p.far q.far ≡ true)
-    both best None h = (h, λ q e. some_none e)
-    both None (Some q) h = ((λ b e. some_none e), h)
+    both best None h = (h, λ q e. cc)
+    both None (Some q) h = ((λ b e. cc), h)
     both (Some b) (Some q) h = go (nearer K b.far q.far) refl h
       where
         go : (t : Bool) → nearer K b.far q.far ≡ t → ((x : Pick C) → cond t (Some b) (Some q) ≡ Some x → nearer K p.far x.far ≡ true) →
@@ -68,3 +66,12 @@ module _ {C : Type 0} (K : Kind C) (laws : Laws K) where
       neither best None h = (h, refl)
       neither None (Some q) h = grind arith
       neither (Some b) (Some q) h = grind arith
+
+-- the arcs in turn, each chosen from
+pub nearest_turns : {C F S : Type 0} (K : Kind C) (ps : List C) (ms : List Bool) (left : S → List (Arc C)) (turn : F × Option (Pick C) → Arc C → F × Option (Pick C) → Type 0) (xs : List (Arc C)) (s t : S) (p q : F × Option (Pick C)) →
+    Yields (YieldsFirst left) s xs t → left t ≡ [] → FoldsTo turn p xs q → ((i j : F × Option (Pick C)) (x : Arc C) → i.0 ≡ p.0 → turn i x j → (j.0 ≡ p.0) × (j.1 ≡ chosen K i.1 (slack_of K ps ms x))) → q.1 ≡ nearest_of K ps ms p.1 (left s)
+nearest_turns K ps ms left turn [] s t p q y none f tells = ap (λ z. z.1) (sym f) ∙ sym (ap (nearest_of K ps ms p.1) (ap left y ∙ none))
+nearest_turns K ps ms left turn (x ∷ xs) s t p q (j, a, y) none (i, b, f) tells =
+    let told = tells p i x refl b in
+    nearest_turns K ps ms left turn xs j t i q y none f (λ k l z o h. let r = tells k l z (o ∙ told.0) h in (r.0 ∙ sym told.0, r.1))
+    ∙ ap (λ z. nearest_of K ps ms z (left j)) told.1 ∙ sym (ap (nearest_of K ps ms p.1) a)

@@ -7,7 +7,7 @@ use Rattle.costs.specs.Kinds.{Kind, Laws}
 use Rattle.flows.proofs.Group.{size_zero, size_reduced, size_neg, size_minus}
 use Rattle.tidy.specs.declared.picks.Pick.{Pick}
 use Rattle.tidy.specs.Picks.{slack_of, nearest_of, first_free_of, picked, unmarked, GoodPick, labelled_at, Sound}
-use Rattle.tidy.proofs.Order.{some_none, nearest_allows, nearest_is, nearest_none}
+use Rattle.tidy.proofs.Order.{nearest_allows, nearest_is, nearest_none}
 use Rattle.tidy.proofs.Marks.{some_labelled_at, first_free}
 use Rattle.flows.proofs.Nearer.{sign_raised, to_lands, from_lands, none_larger}
 use Rattle.flows.proofs.Shifts.{SmallInside}
@@ -45,7 +45,7 @@ module _ {C : Type 0} (K : Kind C) (laws : Laws K) (ms : List Bool) (ps : List C
       moderate_r = omega (arith, size_reduced K laws a.cost pf pt, moderate (a.from - 1) (omega arith), moderate (a.to - 1) (omega arith))
 
       go : (x y : Bool) → labelled_at ms a.from ≡ x → labelled_at ms a.to ≡ y → cond x (cond y None (Some (picked (a.to - 1) r))) (cond y (Some (picked (a.from - 1) (K.neg r))) None) ≡ Some q → Fair m q
-      go true true u v e = some_none e
+      go true true u v e = cc
       go true false u v e = let s : picked (a.to - 1) r ≡ q = cc in subst (Fair m) s (record {
         inside = omega arith;
         free = v;
@@ -60,7 +60,7 @@ module _ {C : Type 0} (K : Kind C) (laws : Laws K) (ms : List Bool) (ps : List C
         lands = λ b h. subst (λ z. K.size z ≤ b + m) (sym (from_lands K laws a.cost pf pt)) (omega (arith, size_minus K laws pt a.cost, h a.to ends.2 ends.3 v));
         some = some_labelled_at ms (a.to - 1) v;
       })
-      go false false u v e = some_none e
+      go false false u v e = cc
 
   -- no sign turns where the change is as near as the arc's slack
   arc_kept : (e : C) (qs : List C) (a : Arc C) → Ends (length ps) a → Raised K (length ps) e (labelled_at ms) ps qs → ((q : Pick C) → slack_of K ps ms a ≡ Some q → nearer K e q.far ≡ true) → SignKept K (reduced K ps a) (reduced K qs a)
@@ -82,7 +82,7 @@ module _ {C : Type 0} (K : Kind C) (laws : Laws K) (ms : List Bool) (ps : List C
 
     pub nearest_good : Bounded K price_limit ps → (p : Pick C) → Some p ≡ nearest_of K ps ms None arcs → GoodPick K arcs ms ps p
     nearest_good moderate p h =
-        let f = nearest_is K laws p ps ms (Fair (largest K arcs)) arcs None (λ b e. some_none e)
+        let f = nearest_is K laws p ps ms (Fair (largest K arcs)) arcs None (λ b e. cc)
         (all_both (Ends (length ps)) (λ a. K.size a.cost ≤ largest K arcs) (λ a. (q : Pick C) → slack_of K ps ms a ≡ Some q → Fair (largest K arcs) q)
         (fair (largest K arcs) sound.costs moderate) arcs sound.ends (none_larger K arcs)) (sym h) in
         record {
@@ -100,7 +100,7 @@ module _ {C : Type 0} (K : Kind C) (laws : Laws K) (ms : List Bool) (ps : List C
       free = (first_free ms some).1;
       moderate = omega (arith, size_neg K laws here, moderate i inside);
       keeps = kept_all (K.neg here) (All-weaker (λ a. slack_of K ps ms a ≡ None) (λ a. (q : Pick C) → slack_of K ps ms a ≡ Some q → nearer K (K.neg here) q.far ≡ true)
-          (λ a n q s. some_none (sym n ∙ s)) arcs (nearest_none K laws ps ms arcs None (sym h)).1);
+          (λ a n q s. cc) arcs (nearest_none K laws ps ms arcs None (sym h)).1);
       lands = λ b k. omega (arith, zero_there);
       lands_first = λ e. zero_there;
     }

@@ -6,7 +6,7 @@ use Rattle.costs.specs.Kinds.{Kind, Laws}
 use Rattle.flows.specs.Kilter.{price, reduced, largest}
 use Rattle.flows.specs.Prices.{Raised, SignKept, SignsKept}
 use Rattle.flows.specs.Fits.{Bounded, found_limit, price_limit}
-use Rattle.flows.proofs.Group.{size_zero, off_on}
+use Rattle.flows.proofs.Group.{size_zero}
 use Rattle.flows.proofs.Prices.{sign_same, sign_trans}
 use Rattle.flows.proofs.Shifts.{Shifted, SmallInside, SmallPrices, not_shifted, still_shifted, more_shifted, raised_inside, raised_outside, shift_small, all_small}
 use Rattle.tidy.specs.declared.picks.Pick.{Pick}
@@ -43,7 +43,7 @@ newly ms j n other = get_or-set_other ms j (n - 1) true false other
 
 fewer : (ms : List Bool) (j : ℕ) → j < length ms → (n : ℕ) → labelled_at (set ms j true) n ≡ false → labelled_at ms n ≡ false
 fewer ms j l n m = ⊎_elim
-    (λ (e : n - 1 ≡ j). off_on (sym (subst (λ z. get_or (set ms j true) z false ≡ false) e m) ∙ get_or-set_same ms j true false l))
+    (λ (e : n - 1 ≡ j). let z : false ≡ true = sym (subst (λ z. get_or (set ms j true) z false ≡ false) e m) ∙ get_or-set_same ms j true false l in cc)
     (λ (ne : n - 1 ≡ j → ⊥). sym (newly ms j n ne) ∙ m) (cases_eq (n - 1) j)
 
 module _ {C : Type 0} (K : Kind C) (laws : Laws K) (arcs : List (Arc C)) where

@@ -9,11 +9,17 @@ use Rattle.flows.specs.Kilter.{reduced, largest}
 use Rattle.flows.specs.Flows.{Ends}
 use Rattle.flows.specs.Prices.{SignsKept, Raised, nearer}
 use Rattle.flows.proofs.Shifts.{SmallInside}
-use Rattle.flows.specs.Fits.{Bounded, change_limit}
+use Rattle.flows.specs.Fits.{Fitting, Bounded, found_limit, change_limit}
 
 -- the node is labelled: of marks with node 1's first
 abbrev pub labelled_at : List Bool → ℕ → Bool
 labelled_at marks n = slice_index_or marks (n - 1) false
+
+-- prices that may be tidied: of a network that fits, as a search for one chain leaves them
+pub record Untidy {C : Type 0} (K : Kind C) (arcs : List (Arc C)) (ps : List C) : Type 0 where
+  pub few : length ps ≤ 256
+  pub fitting : Fitting K (length ps) arcs
+  pub moderate : Bounded K found_limit ps
 
 -- tidied: no sign turns, and every price has a size of at most (N − 1) times the largest cost size
 pub record Tidied {C : Type 0} (K : Kind C) (arcs : List (Arc C)) (ps qs : List C) : Type 0 where

@@ -33,10 +33,10 @@ fn nearer<C: CostKind>(a: C, b: C) -> bool
     ensures { result ≡ is_nearer C.CostKind.kind a b }
 {
     let zero = C::zero();
-    if zero.at_most(b) {
-        zero.at_most(a) && a.at_most(b)
+    if b >= zero {
+        a >= zero && a <= b
     } else {
-        zero.at_most(a) || b.at_most(a)
+        a >= zero || a >= b
     }
 }
 
@@ -80,11 +80,7 @@ impl<N: Network> Marked<'_, N> {
     fn nearest(&self) -> Option<Pick<N::Cost>>
         ensures { result ≡ nearest_of N.Cost.CostKind.kind self.now.prices.now self.now.marks.now None (shown (N.meaning self.now.net.now)) }
     {
-        let mut best = None;
-        for arc in arcs_of(self.net) {
-            best = choose(best, self.slack(arc));
-        }
-        best
+        arcs_of(self.net).fold(None, |best, arc| choose(best, self.slack(arc)))
     }
 
     // The first node that is not labelled, which is brought to a price of zero.
@@ -92,7 +88,7 @@ impl<N: Network> Marked<'_, N> {
         requires { 1 ≤ unmarked self.now.marks.now }
         ensures { result ≡ first_free_of N.Cost.CostKind.kind self.now.prices.now self.now.marks.now }
     {
-        let place = free_place(self.marks).unwrap_or(0);
+        let place = free_place(self.marks).unwrap();
         let far = opposite(price_at(self.prices, place + 1));
         Pick { place, far }
     }

@@ -1,19 +1,16 @@
 // The loop that labels every node in turn and changes the prices of those that are left.
 
-ghost use Rattle.std.specs.Prelude.{◌≡◌, ℕ, ◌≤◌, length};
+ghost use Rattle.std.specs.Prelude.{◌≡◌, length};
 ghost use Rattle.networks.specs.Nets.{shown};
-ghost use Rattle.flows.specs.Fits.{Fitting, Bounded, found_limit};
-ghost use Rattle.tidy.specs.Picks.{unmarked, Tidied};
+ghost use Rattle.tidy.specs.Picks.{unmarked, Untidy, Tidied};
 
 use crate::picks::Marked;
 use flows::raise;
-use networks::Network;
+use networks::{MOST_NODES, Network};
 
 // Labels every node in turn, with marks lent for it of which none is set.
 fn label_all<N: Network>(net: &N, prices: &mut [N::Cost], marks: &mut [bool])
-    requires few { length prices.old ≤ 256 }
-    requires fitting { Fitting N.Cost.CostKind.kind (length prices.old) (shown (N.meaning net.now)) }
-    requires moderate { Bounded N.Cost.CostKind.kind found_limit prices.old }
+    requires untidy { Untidy N.Cost.CostKind.kind (shown (N.meaning net.now)) prices.old }
     requires alike { length marks.old ≡ length prices.old }
     requires clear { unmarked marks.old ≡ length marks.old }
     ensures { Tidied N.Cost.CostKind.kind (shown (N.meaning net.now)) prices.old prices.new }
@@ -27,12 +24,10 @@ fn label_all<N: Network>(net: &N, prices: &mut [N::Cost], marks: &mut [bool])
 
 // Makes the prices small, and turns the sign of no reduced cost.
 pub fn tidy<N: Network>(net: &N, prices: &mut [N::Cost])
-    requires few { length prices.old ≤ 256 }
-    requires fitting { Fitting N.Cost.CostKind.kind (length prices.old) (shown (N.meaning net.now)) }
-    requires moderate { Bounded N.Cost.CostKind.kind found_limit prices.old }
+    requires { Untidy N.Cost.CostKind.kind (shown (N.meaning net.now)) prices.old }
     ensures { Tidied N.Cost.CostKind.kind (shown (N.meaning net.now)) prices.old prices.new }
 {
-    let mut marks = [false; 256];
+    let mut marks = [false; MOST_NODES];
     let n = prices.len();
     label_all(net, prices, &mut marks[..n]);
 }

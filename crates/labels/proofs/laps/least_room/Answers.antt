@@ -1,30 +1,31 @@
 use Rattle.networks.specs.Nets.{shown}
-use Rattle.std.specs.Ordering.{ord_min}
-use Rattle.std.proofs.Common.{int_cmp, ap, false, ◌∙◌, subst, arith, w32, SFits, to_z, of_z, rules}
-use Rattle.std.specs.List.{AllByRecursion}
-use Rattle.std.proofs.lemmas.List.{take_all}
-use Rattle.std.proofs.ByRecursion.{All-get_or}
+use Rattle.std.proofs.Common.{◌<◌, ◌∷◌, length, rules, subst, sym, arith, w32, SFits}
 use Rattle.std.proofs.lemmas.Int.{to_z-of_z}
+use Rattle.std.specs.List.{AllByRecursion}
+use Rattle.flows.specs.Fits.{Small}
 use Rattle.labels.specs.Ways.{Moving, FitsIn}
-use Rattle.labels.proofs.Rooming.{least_more, min_is}
+use Rattle.flows.proofs.Turns.{held_same}
+use Rattle.labels.proofs.Rooming.{left_all, least_turns}
 use Rattle.labels.proofs.laps.least_room.Goals as goal
 
-pub room-requires : goal.room-requires
-room-requires g c =
-    let m = All-get_or (Moving g.N.Cost.CostKind.kind (shown (g.N.Network.meaning c.args.view.now.net.now)) c.args.view.now.flow.now c.args.view.now.prices.now) c.args.steps.now c.loop-step.step-index (record { node = 0; arc = 0; along = false }) c.loop-step-test.true c.requires.moving in
-    record { small = c.requires.small; arc = omega (arith, m.0, c.args.view.now.long) }
-
-pub loop-step-preserved : goal.loop-step-preserved
-loop-step-preserved g c =
-    let x : SFits w32 c.room.result = search rules in
-    let r : SFits w32 c.min-least.result = search rules in
-    least_more g.N.Cost.CostKind.kind (shown (g.N.Network.meaning c.args.view.now.net.now)) c.args.view.now.flow.now c.args.view.now.prices.now c.args.steps.now c.loop-step.step-index (record { node = 0; arc = 0; along = false })
-    _ c.room.result (to_z w32 (of_z w32 c.min-least.result)) c.loop-step-test.true c.args.view.now.long c.requires.moving
-    c.loop-step.invariant.0 c.loop-step.invariant.1 c.loop-step.invariant.2 c.room.ensures (to_z-of_z w32 c.min-least.result r ∙ c.min-least.ensures ∙ ap (ord_min int_cmp (to_z w32 c.loop-step.least-bits)) (to_z-of_z w32 c.room.result x) ∙ min_is (to_z w32 c.loop-step.least-bits) c.room.result)
+pub fold-requires-clause-callable : goal.fold-requires-clause-callable
+fold-requires-clause-callable g c =
+    let v = c.args.view.now in
+    let P = Moving g.N.Cost.CostKind.kind (shown (g.N.Network.meaning v.net.now)) v.flow.now v.prices.now in
+    record {
+      at = λ xs t q x u y f s.
+          let h = held_same _ xs _ _ f (λ p q x h. search rules) in
+          let m : AllByRecursion P (x.now ∷ u.rest.now) = subst (AllByRecursion P) s (left_all P xs c.iter.result t y (subst (AllByRecursion P) (sym c.iter.ensures.rest) c.requires.moving)) in
+          λ κs r n b w o κt l. subst (λ z. Small z.0.now.flow.now × (x.now.arc < length z.0.now.flow.now)) (sym h) (c.requires.small, omega (arith, m.0.0, v.long));
+    }
 
 pub returns : goal.returns
-returns g c = record {
-  low = c.loop-step.invariant.0;
-  high = c.loop-step.invariant.1;
-  least = subst (AllByRecursion (FitsIn g.N.Cost.CostKind.kind (shown (g.N.Network.meaning c.args.view.now.net.now)) c.args.view.now.flow.now c.args.view.now.prices.now _)) (take_all c.loop-step.step-index c.args.steps.now c.loop-step-test.false) c.loop-step.invariant.2;
-}
+returns g c =
+    let v = c.args.view.now in
+    let K = g.N.Cost.CostKind.kind in
+    let arcs = shown (g.N.Network.meaning v.net.now) in
+    let (xs, f, (u, (t, yields, none)), folds) = c.fold.ensures.ran in
+    let fits : SFits w32 c.fold.result = search rules in
+    let r = least_turns K arcs v.flow.now v.prices.now _ xs c.iter.result t _ (f, _) yields none.0 folds (λ p q x o h. (search rules, λ a at. search rules))
+    (subst (AllByRecursion (Moving K arcs v.flow.now v.prices.now)) (sym c.iter.ensures.rest) c.requires.moving) (omega arith) in
+    record { low = simp to_z-of_z r.0; high = simp to_z-of_z r.1; least = simp to_z-of_z (subst (AllByRecursion (FitsIn K arcs v.flow.now v.prices.now c.fold.result)) c.iter.ensures.rest r.2) }

@@ -15,8 +15,8 @@ invariant_of-next_pick g c =
     let arcs = shown (g.N.Network.meaning c.args.net.now) in
     let t = c.loop.invariant in
     record {
-      fitting = subst (λ z. Fitting K z arcs) (sym t.sized) c.requires.fitting;
-      moderate = all_moderate K g.met.N.Cost.CostKind.lawful arcs c.args.prices.now c.loop.prices c.loop.marks c.loop.counter t c.requires.moderate (omega arith) (sound_from K _ arcs c.requires.fitting).costs;
+      fitting = subst (λ z. Fitting K z arcs) (sym t.sized) c.requires.untidy.fitting;
+      moderate = all_moderate K g.met.N.Cost.CostKind.lawful arcs c.args.prices.now c.loop.prices c.loop.marks c.loop.counter t c.requires.untidy.moderate (omega (arith, c.requires.untidy.few)) (sound_from K _ arcs c.requires.untidy.fitting).costs;
       alike = t.alike ∙ sym t.sized;
     }
 
@@ -25,9 +25,9 @@ next_pick-p-requires g c = omega (arith, c.loop.invariant.left)
 
 pub loop-preserved : goal.loop-preserved
 loop-preserved g c =
-    labelled g.N.Cost.CostKind.kind g.met.N.Cost.CostKind.lawful (shown (g.N.Network.meaning c.args.net.now)) c.args.prices.now c.loop.prices c.loop.marks c.loop.counter c.loop.invariant c.requires.moderate
+    labelled g.N.Cost.CostKind.kind g.met.N.Cost.CostKind.lawful (shown (g.N.Network.meaning c.args.net.now)) c.args.prices.now c.loop.prices c.loop.marks c.loop.counter c.loop.invariant c.requires.untidy.moderate
     c.raise.new.prices c.next_pick-p.result c.next_pick-p.ensures c.raise.ensures.long (c.raise.ensures.raised (labelled_at c.loop.marks) (λ k h b told. let same : suc k - 1 ≡ k = omega arith in rw same (search rules)))
 
 pub returns : goal.returns
 returns g c =
-    finish g.N.Cost.CostKind.kind g.met.N.Cost.CostKind.lawful (shown (g.N.Network.meaning c.args.net.now)) c.args.prices.now c.loop.prices c.loop.marks c.loop.counter c.loop.invariant c.requires.moderate (omega arith)
+    finish g.N.Cost.CostKind.kind g.met.N.Cost.CostKind.lawful (shown (g.N.Network.meaning c.args.net.now)) c.args.prices.now c.loop.prices c.loop.marks c.loop.counter c.loop.invariant c.requires.untidy.moderate (omega (arith, c.requires.untidy.few))
