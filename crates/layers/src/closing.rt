@@ -8,7 +8,7 @@ ghost use Rattle.layers.specs.Closings.{closing_stop, closing_net, entry_stop, a
 use crate::entry::{Entry, Side};
 use arrayvec::ArrayVec;
 use costs::CostKind;
-use networks::{Arc, Bounds, COST_LIMIT, MOST_ARCS, MOST_NODES, Network, Stop, Tag};
+use networks::{Arc, Bounds, COST_LIMIT, MOST_ARCS, Network, Stop, Tag, check_counts};
 use std::cmp::Ordering;
 
 // The most entries of a closing.
@@ -39,12 +39,10 @@ impl<N: Network> Closing<N, N::Cost> {
     pub fn check(below: &N) -> Result<(), Stop>
         ensures { refusal result ≡ closing_stop (N.Network.meaning below.now) }
     {
+        let (nodes, arcs) = (below.nodes(), below.arcs());
+        check_counts(nodes, arcs)?;
         // Two nodes and an arc come on top.
-        let nodes = below.nodes();
-        if !(1..=MOST_NODES - 2).contains(&nodes) || below.arcs() > MOST_ARCS - 1 {
-            return Err(Stop::Counts);
-        }
-        Ok(())
+        check_counts(nodes + 2, arcs + 1)
     }
 
     // A closing with no entries, and with these bounds and cost for its return arc.
