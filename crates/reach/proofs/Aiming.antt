@@ -1,6 +1,6 @@
 -- The chosen arc while the sought node is not labelled: it leads from there to a labelled one, so that it takes part in each rise.
 use Rattle.std.proofs.Common.{◌≡◌, ℕ, ◌≤◌, Bool, true, false, cond, not, List, length, get_or, ℤ, pos, Some, sym, refl, ap, ◌∙◌, subst, arith}
-use Rattle.std.proofs.lemmas.Bool.{lt-ltb, le-ltb}
+use Rattle.std.proofs.lemmas.Bool.{lt-ltb, le-ltb, false≢true}
 use Rattle.costs.specs.Kinds.{Kind, Laws}
 use Rattle.networks.specs.Nets.{IsAt}
 use Rattle.networks.specs.declared.network.Arc.{Arc}
@@ -10,7 +10,6 @@ use Rattle.flows.specs.Kilter.{reduced}
 use Rattle.flows.specs.Laps.{near, far}
 use Rattle.flows.specs.Prices.{Raised}
 use Rattle.flows.proofs.ArcSums.{same_at}
-use Rattle.flows.proofs.Group.{off_on}
 use Rattle.flows.proofs.Prices.{by_ends}
 use Rattle.flows.proofs.Rooms.{Amiss}
 use Rattle.labels.specs.declared.labelling.Labels.{Labels}
@@ -73,9 +72,9 @@ module _ {C : Type 0} (K : Kind C) (laws : Laws K) (arcs : List (Arc C)) (flow :
         where
           go : (along : Bool) → is_labelled ls (near a along) ≡ false → is_labelled ls (far a along) ≡ true → After K e (reduced K ps a) (reduced K qs a) along
           go true o i = by_ends K laws e (length ps) (is_labelled ls) ps qs raised a aimed.fit.ends (λ d. d ≡ K.plus (reduced K ps a) e)
-              (λ s. off_on (sym o ∙ s ∙ i)) (λ p q r h. off_on (sym o ∙ p)) (λ p q. refl)
+              (λ s. absurd (false≢true (sym o ∙ s ∙ i))) (λ p q r h. absurd (false≢true (sym o ∙ p))) (λ p q. refl)
           go false o i = by_ends K laws e (length ps) (is_labelled ls) ps qs raised a aimed.fit.ends (λ d. K.plus d e ≡ reduced K ps a)
-              (λ s. off_on (sym o ∙ sym s ∙ i)) (λ p q r h. h) (λ p q. off_on (sym p ∙ i))
+              (λ s. absurd (false≢true (sym o ∙ sym s ∙ i))) (λ p q r h. h) (λ p q. absurd (false≢true (sym p ∙ i)))
 
       -- short of its limit it is still the chosen one
       pub still_chosen : ShortOf K (own_limit_at K (reduced K ps a) a chosen.along (get_or flow chosen.arc (pos 0))) e → (n : ℕ) → Chosen K arcs flow ps chosen n → Chosen K arcs flow qs chosen n

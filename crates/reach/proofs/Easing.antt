@@ -2,7 +2,7 @@
 use Rattle.std.proofs.Common.{◌≡◌, ℕ, ◌≤◌, Bool, true, false, cond, ◌||◌, ◌⊎◌, List, length, get_or, ℤ, pos, ◌≤ℤ◌, ◌<ℤ◌, Some, None, Option, sym, refl, ap, ◌∙◌, subst, inl, inr, arith}
 use lib.Signed.{lt_z}
 use borrow.Author.Differences.{ints}
-use Rattle.std.proofs.lemmas.Bool.{cases_eq}
+use Rattle.std.proofs.lemmas.Bool.{cases_eq, false≢true}
 use Rattle.std.proofs.lemmas.List.{get_or_read}
 use Rattle.costs.specs.Kinds.{Kind, Laws}
 use Rattle.networks.specs.Nets.{IsAt}
@@ -15,7 +15,7 @@ use Rattle.flows.specs.Laps.{near, far}
 use Rattle.flows.specs.Prices.{Raised}
 use Rattle.flows.proofs.ArcSums.{same_at, all_from, each_from}
 use Rattle.flows.proofs.Cuts.{Stuck, Strained}
-use Rattle.flows.proofs.Group.{off_on, left, cancel}
+use Rattle.flows.proofs.Group.{left, cancel}
 use Rattle.flows.proofs.Prices.{Allows, all_repriced}
 use Rattle.flows.proofs.Wants.{WantsMore, WantsLess, zero_kilter}
 use Rattle.labels.specs.declared.labelling.Labels.{Labels}
@@ -31,16 +31,16 @@ leads_out ls a p q = go (is_labelled ls a.from) (is_labelled ls a.to) p q
   where
     go : (x y : Bool) → x ≡ true → y ≡ false → cond x (cond y None (Some true)) (cond y (Some false) None) ≡ Some true
     go true false p q = refl
-    go true true p q = off_on (sym q)
-    go false y p q = off_on p
+    go true true p q = absurd cc
+    go false y p q = absurd cc
 
 leads_in : {C : Type 0} (ls : Labels) (a : Arc C) → is_labelled ls a.from ≡ false → is_labelled ls a.to ≡ true → crossing_at ls a ≡ Some false
 leads_in ls a p q = go (is_labelled ls a.from) (is_labelled ls a.to) p q
   where
     go : (x y : Bool) → x ≡ false → y ≡ true → cond x (cond y None (Some true)) (cond y (Some false) None) ≡ Some false
     go false true p q = refl
-    go false false p q = off_on q
-    go true y p q = off_on (sym p)
+    go false false p q = absurd cc
+    go true y p q = absurd cc
 
 module _ {C : Type 0} (K : Kind C) (laws : Laws K) where
   slack_out : (c : C) (a : Arc C) (f : ℤ) → K.le c K.zero ≡ false → f <ℤ a.hi → slack_at K c a true f ≡ Some c
@@ -48,16 +48,16 @@ module _ {C : Type 0} (K : Kind C) (laws : Laws K) where
     where
       go : (x y : Bool) → x ≡ false → y ≡ true → cond x None (cond y (Some c) None) ≡ Some c
       go false true p q = refl
-      go false false p q = off_on q
-      go true y p q = off_on (sym p)
+      go false false p q = absurd cc
+      go true y p q = absurd cc
 
   slack_in : (c : C) (a : Arc C) (f : ℤ) → K.le K.zero c ≡ false → a.lo <ℤ f → slack_at K c a false f ≡ Some (K.neg c)
   slack_in c a f u l = go (K.le K.zero c) (lt_z a.lo f) u (less_is a.lo f l)
     where
       go : (x y : Bool) → x ≡ false → y ≡ true → cond x None (cond y (Some (K.neg c)) None) ≡ Some (K.neg c)
       go false true p q = refl
-      go false false p q = off_on q
-      go true y p q = off_on (sym p)
+      go false false p q = absurd cc
+      go true y p q = absurd cc
 
   -- the chosen arc within its bounds: at most its own limit is at most its |c|
   up_to_own : (c e : C) (a : Arc C) (along : Bool) (f : ℤ) → a.lo ≤ℤ f → f ≤ℤ a.hi → UpTo K (own_limit_at K c a along f) e → K.le e (cond along (K.neg c) c) ≡ true
@@ -70,13 +70,13 @@ module _ {C : Type 0} (K : Kind C) (laws : Laws K) where
 
   room_in : (u : Bool) (lo hi f : ℤ) → lo ≤ℤ hi → (f <ℤ lo) ⊎ ((u ≡ false) × (f <ℤ hi)) → f ≤ℤ cond u lo hi
   room_in true lo hi f h (inl l) = omega (arith, ints)
-  room_in true lo hi f h (inr (v, l)) = off_on (sym v)
+  room_in true lo hi f h (inr (v, l)) = absurd cc
   room_in false lo hi f h (inl l) = omega (arith, ints)
   room_in false lo hi f h (inr (v, l)) = omega (arith, ints)
 
   room_out : (d : Bool) (lo hi f : ℤ) → lo ≤ℤ hi → (hi <ℤ f) ⊎ ((d ≡ false) × (lo <ℤ f)) → cond d hi lo ≤ℤ f
   room_out true lo hi f h (inl l) = omega (arith, ints)
-  room_out true lo hi f h (inr (v, l)) = off_on (sym v)
+  room_out true lo hi f h (inr (v, l)) = absurd cc
   room_out false lo hi f h (inl l) = omega (arith, ints)
   room_out false lo hi f h (inr (v, l)) = omega (arith, ints)
 
@@ -93,7 +93,7 @@ module _ {C : Type 0} (K : Kind C) (laws : Laws K) where
       Wants K (reduced K ps a) a along f → UpTo K (own_limit_at K (reduced K ps a) a along f) e → Allows K e inside ps a f
   chosen_allows e inside ps a true f h o i w u = record {
     fits = h;
-    leaves = λ p q. off_on (sym o ∙ p);
+    leaves = λ p q. absurd (false≢true (sym o ∙ p));
     enters = λ p q. (
       room_in (K.le K.zero (reduced K ps a)) a.lo a.hi f h w,
       λ v l. add_down K laws (reduced K ps a) e (up_to_own (reduced K ps a) e a true f (omega (arith, ints)) (under a.lo a.hi f (K.le K.zero (reduced K ps a) ≡ false) l w) u),
@@ -105,7 +105,7 @@ module _ {C : Type 0} (K : Kind C) (laws : Laws K) where
       room_out (K.le (reduced K ps a) K.zero) a.lo a.hi f h w,
       λ v l. up_to_own (reduced K ps a) e a false f (over_low a.lo a.hi f (K.le (reduced K ps a) K.zero ≡ false) l w) (omega (arith, ints)) u,
     );
-    enters = λ p q. off_on (sym o ∙ q);
+    enters = λ p q. absurd (false≢true (sym o ∙ q));
   }
 
   -- a rise by |c| brings the reduced cost to zero
@@ -137,8 +137,8 @@ module _ {C : Type 0} (K : Kind C) (laws : Laws K) where
   is_strained inside c a false f o i w h = inl (i, o, above_high c a f w h)
 
   strained_stuck : (inside : ℕ → Bool) (a : Arc C) (f : ℤ) → Strained inside a f → Stuck inside a f
-  strained_stuck inside a f (inl (p, q, l)) = ((λ _ _. omega (arith, ints)), (λ x y. off_on (sym x ∙ p)))
-  strained_stuck inside a f (inr (p, q, l)) = ((λ x y. off_on (sym p ∙ x)), (λ _ _. omega (arith, ints)))
+  strained_stuck inside a f (inl (p, q, l)) = ((λ _ _. omega (arith, ints)), (λ x y. absurd (false≢true (sym x ∙ p))))
+  strained_stuck inside a f (inr (p, q, l)) = ((λ x y. absurd (false≢true (sym p ∙ x))), (λ _ _. omega (arith, ints)))
 
   module _ (arcs : List (Arc C)) (flow : List ℤ) (ps : List C) (chosen : Step) (ls : Labels) (best : Option (Best C))
       (fitting : Fitting K (length ps) arcs) (long : length flow ≡ length arcs) (seen : Sighted K arcs flow ps chosen.arc ls (length arcs) best) where

@@ -1,12 +1,13 @@
 -- The chosen arc wants to gain or to lose; what a rise of prices by e, which brings its reduced cost from c to d, does to it.
 use Rattle.std.proofs.Common.{◌≡◌, Bool, true, false, cond, ◌||◌, ◌⊎◌, List, ℤ, ◌≤ℤ◌, ◌<ℤ◌, Some, None, Option, sym, refl, ap, ◌∙◌, subst, subst₂, inl, inr, arith}
+use Rattle.std.proofs.lemmas.Bool.{false≢true}
 use lib.Signed.{lt_z}
 use borrow.Author.Differences.{ints}
 use Rattle.costs.specs.Kinds.{Kind, Laws}
 use Rattle.networks.specs.declared.network.Arc.{Arc}
 use Rattle.flows.specs.Flows.{Within}
 use Rattle.flows.specs.Kilter.{reduced}
-use Rattle.flows.proofs.Group.{off_on, comm, left, cancel_le, neg_up}
+use Rattle.flows.proofs.Group.{comm, left, cancel_le, neg_up}
 use Rattle.flows.proofs.Rooms.{Amiss}
 use Rattle.flows.proofs.Wants.{WantsMore, WantsLess, more_amiss, less_amiss}
 use Rattle.labels.specs.Moves.{may}
@@ -74,7 +75,7 @@ module _ {C : Type 0} (K : Kind C) (laws : Laws K) where
   still_wants e c d a true f (inr (u, l)) s q = go (lt_z f a.lo) (lt_z a.hi f) refl refl s
     where
       above : (t : Bool) → K.le K.zero d ≡ t → K.le (K.neg c) e ≡ false → K.le K.zero d ≡ false
-      above true x y = off_on (sym y ∙ add_up c e (ap (K.le K.zero) (sym q) ∙ x))
+      above true x y = absurd (false≢true (sym y ∙ add_up c e (ap (K.le K.zero) (sym q) ∙ x)))
       above false x y = x
 
       go : (x y : Bool) → lt_z f a.lo ≡ x → lt_z a.hi f ≡ y → ShortOf K (cond (x || y) None (Some (K.neg c))) e → WantsMore K d a f
@@ -85,7 +86,7 @@ module _ {C : Type 0} (K : Kind C) (laws : Laws K) where
   still_wants e c d a false f (inr (u, l)) s q = go (lt_z f a.lo) (lt_z a.hi f) refl refl s
     where
       above : (t : Bool) → K.le d K.zero ≡ t → K.le c e ≡ false → K.le d K.zero ≡ false
-      above true x y = off_on (sym y ∙ take_down c d e q x)
+      above true x y = absurd (false≢true (sym y ∙ take_down c d e q x))
       above false x y = x
 
       go : (x y : Bool) → lt_z f a.lo ≡ x → lt_z a.hi f ≡ y → ShortOf K (cond (x || y) None (Some c)) e → WantsLess K d a f

@@ -6,7 +6,7 @@ use Rattle.networks.specs.declared.network.Arc.{Arc}
 use Rattle.networks.specs.Nets.{IsAt}
 use Rattle.flows.specs.Kilter.{reduced, kilter_number, kilter_sum}
 use Rattle.flows.specs.Laps.{Laps}
-use Rattle.flows.proofs.ArcSums.{each_getD}
+use Rattle.flows.proofs.ArcSums.{each_get_or}
 use Rattle.flows.proofs.Prices.{sum_falls}
 use Rattle.flows.proofs.Lapping.{laps_more}
 use Rattle.flows.proofs.Wants.{kilter_stays}
@@ -19,7 +19,7 @@ module _ {C : Type 0} (K : Kind C) (laws : Laws K) (N : ℕ) (arcs : List (Arc C
   falls = sum_falls K ps qs arcs f eased
 
   at : (j : ℕ) (a : Arc C) → IsAt arcs j a → kilter_number K (reduced K qs a) a (get_or f j (pos 0)) ≤ kilter_number K (reduced K ps a) a (get_or f j (pos 0))
-  at j a is = each_getD (λ a f. kilter_number K (reduced K qs a) a f ≤ kilter_number K (reduced K ps a) a f) arcs f j a eased is
+  at j a is = each_get_or (λ a f. kilter_number K (reduced K qs a) a f ≤ kilter_number K (reduced K ps a) a f) arcs f j a eased is
 
   -- other prices
   pub going_repriced : Ready K N arcs f qs → Going K N arcs found i laps f qs
