@@ -4,10 +4,11 @@ ghost use Rattle.std.specs.Prelude.{◌≡◌, ℕ, ◌<◌, ◌≤◌, length, 
 ghost use Rattle.std.specs.List.{AllByRecursion};
 ghost use Rattle.networks.specs.Limits.{flow_limit};
 ghost use Rattle.networks.specs.Nets.{shown};
-ghost use Rattle.flows.specs.Fits.{Fitting, Small, Bounded, price_limit};
+ghost use Rattle.flows.specs.Fits.{Small, Bounded, price_limit};
 ghost use Rattle.flows.specs.Laps.{moved, sent};
-ghost use Rattle.labels.specs.Good.{Good, Labelled, count, node_at};
-ghost use Rattle.labels.specs.Ways.{Backward, Trail, RoomIs, Moving, FitsIn, Steady, Chosen, GoneRound};
+ghost use Rattle.labels.specs.Good.{Labelled, count};
+ghost use Rattle.labels.specs.Searches.{Searching};
+ghost use Rattle.labels.specs.Ways.{Backward, Trail, RoomIs, Moving, FitsIn, Steady, GoneRound};
 
 use crate::labelling::Labels;
 use crate::moves::limit;
@@ -88,13 +89,10 @@ fn send(flow: &mut [i32], steps: &[Step], amount: i32)
 
 // Goes round once: over the chosen arc and back by the labels, with as much as there is room for.
 pub fn lap<N: Network>(net: &N, flow: &mut [i32], prices: &[N::Cost], chosen: Step, labels: &Labels)
-    requires fitting { Fitting N.Cost.CostKind.kind (length prices.now) (shown (N.meaning net.now)) }
+    requires searching { Searching N.Cost.CostKind.kind (shown (N.meaning net.now)) flow.old prices.now chosen labels.now }
     requires moderate { Bounded N.Cost.CostKind.kind price_limit prices.now }
-    requires long { length flow.old ≡ length (shown (N.meaning net.now)) }
     requires small { Small flow.old }
-    requires good { Good N.Cost.CostKind.kind (shown (N.meaning net.now)) flow.old prices.now chosen.arc labels.now }
     requires reached { Labelled labels.now chosen.node }
-    requires chosen { Chosen N.Cost.CostKind.kind (shown (N.meaning net.now)) flow.old prices.now chosen (node_at labels.now 0) }
     ensures { GoneRound N.Cost.CostKind.kind (shown (N.meaning net.now)) prices.now flow.old flow.new }
 {
     let steps = trace(labels, labels.place(chosen.node).unwrap(), chosen);

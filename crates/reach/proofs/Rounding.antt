@@ -15,7 +15,8 @@ use Rattle.labels.specs.Ways.{Chosen}
 use Rattle.reach.specs.Scans.{is_labelled}
 use Rattle.reach.specs.Rises.{Risen, Changed}
 use Rattle.reach.specs.declared.rounds.Over.{Over}
-use Rattle.reach.specs.Rounds.{large, Searching, NoHigher, Repriced, Advanced}
+use Rattle.labels.specs.Searches.{Searching}
+use Rattle.reach.specs.Rounds.{large, NoHigher, Repriced, Advanced}
 use Rattle.reach.proofs.Turning.{none_higher, same_source}
 
 -- the largest size of the price of a labelled node, with k nodes labelled: each has at most twice the largest price at the start and one cost more

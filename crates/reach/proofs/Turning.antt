@@ -20,7 +20,8 @@ use Rattle.reach.specs.declared.rises.Rise.TheVariants.{Label, Kilter}
 use Rattle.reach.specs.declared.rounds.Over.TheVariants as over
 use Rattle.reach.specs.Scans.{is_labelled, AtMost, BestIs, Sighted, Ripe, link_over}
 use Rattle.reach.specs.Rises.{own_limit_at, next_of, NextIs, Risen}
-use Rattle.reach.specs.Rounds.{Searching, NoHigher, Advanced}
+use Rattle.labels.specs.Searches.{Searching}
+use Rattle.reach.specs.Rounds.{NoHigher, Advanced}
 use Rattle.reach.proofs.Repriced.{good_raised}
 use Rattle.reach.proofs.Ripening.{crossed, slack_is, ripe_raised, link_near, link_node, link_room, link_good, link_grown, link_more}
 use Rattle.reach.proofs.Landing.{rise_small, landing}

@@ -6,7 +6,7 @@ use Rattle.networks.specs.Nets.{IsAt}
 use Rattle.flows.specs.declared.steps.Step.{Step}
 use Rattle.flows.specs.Flows.{EachArc}
 use Rattle.flows.specs.Kilter.{reduced, kilter_number, out_of_kilter}
-use Rattle.flows.specs.Fits.{Fitting, Bounded, found_limit}
+use Rattle.flows.specs.Fits.{Bounded, found_limit}
 use Rattle.flows.proofs.Cuts.{Stuck, Strained}
 use Rattle.labels.specs.declared.labelling.Labels.{Labels}
 use Rattle.labels.specs.Good.{count, node_at, Labelled, Good, Grown}
@@ -19,13 +19,6 @@ use Rattle.reach.specs.Rises.{Changed}
 -- prices of at most this size are searched at without tidying
 abbrev pub large : ℕ
 large = 1000000000000
-
--- what a search for one chain goes by: the network fits, the flow is of its length, and the labels lead from the node that the chosen step leads to
-pub record Searching {C : Type 0} (K : Kind C) (arcs : List (Arc C)) (flow : List ℤ) (prices : List C) (chosen : Step) (ls : Labels) : Type 0 where
-  pub fitting : Fitting K (length prices) arcs
-  pub long : length flow ≡ length arcs
-  pub good : Good K arcs flow prices chosen.arc ls
-  pub wanted : Chosen K arcs flow prices chosen (node_at ls 0)
 
 -- no arc's kilter number is higher at the prices qs than at ps
 abbrev pub NoHigher : {C : Type 0} → Kind C → List (Arc C) → List ℤ → List C → List C → Type 0

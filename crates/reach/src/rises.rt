@@ -37,7 +37,7 @@ fn own_limit<C: CostKind>(seen: Seen<C>, along: bool) -> Option<C>
     ensures { result ≡ own_limit_at C.CostKind.kind seen.cost seen.arc along seen.flow }
 {
     let Seen { arc, cost, flow } = seen;
-    if flow < arc.lo || flow > arc.hi {
+    if !(arc.lo..=arc.hi).contains(&flow) {
         return None;
     }
     Some(if along { opposite(cost) } else { cost })

@@ -5,7 +5,8 @@ ghost use Rattle.networks.specs.Nets.{shown};
 ghost use Rattle.flows.specs.Fits.{Bounded, price_limit};
 ghost use Rattle.labels.specs.Good.{count, place_of};
 ghost use Rattle.reach.specs.Scans.{Sighted};
-ghost use Rattle.reach.specs.Rounds.{large, Searching, Repriced, EndsWith, Advanced};
+ghost use Rattle.labels.specs.Searches.{Searching};
+ghost use Rattle.reach.specs.Rounds.{large, Repriced, EndsWith, Advanced};
 
 use crate::rises::{Rise, next_rise, raise};
 use crate::scans::{Best, link, look_round};

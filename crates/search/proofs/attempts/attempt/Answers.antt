@@ -95,13 +95,10 @@ lap-requires g c =
     let now = searched g.N.Cost.CostKind.kind n.nodes (shown n) c.args.flow.now c.args.prices.now c.tame.new.prices c.reach.new.prices c.tame.ensures.ready c.tame.ensures.eased c.reach.ensures.prices in
     let found = c.in-Ok.ensures.ends in
     record {
-      fitting = fits_prices now.ready;
+      searching = record { fitting = fits_prices now.ready; long = now.ready.long; good = found.good; wanted = found.wanted };
       moderate = λ k h. omega (arith, now.ready.bounded k h);
-      long = now.ready.long;
       small = now.ready.small;
-      good = found.good;
       reached = found.reached;
-      chosen = found.wanted;
     }
 
 pub returns-else-not-may_lap : goal.returns-else-not-may_lap
