@@ -17,7 +17,6 @@ pub mod Wants
 pub mod Settling
 pub mod Nearer
 pub mod Shifts
-pub mod Written
 pub mod Tested
 pub mod RunningTotals
 pub mod Turns

@@ -57,12 +57,6 @@ module _ {C : Type 0} (K : Kind C) (arcs : List (Arc C)) (flow : List ℤ) (pric
     ends true = (fit.ends.2, fit.ends.3)
     ends false = (fit.ends.0, fit.ends.1)
 
-    pub new_low : 1 ≤ far a along
-    new_low = (ends along).0
-
-    pub new_high : far a along ≤ 256
-    new_high = omega (arith, (ends along).1)
-
     pub new_room : count ls < 256
     new_room = room (length prices) few ls good.whole new (ends along).0 (ends along).1 (fresh)
 

@@ -1,5 +1,5 @@
 -- Rooms of steps, and flows sent over them.
-use Rattle.std.proofs.Common.{◌≡◌, ℕ, ◌+◌, ◌<◌, ◌≤◌, Bool, true, false, cond, List, [], ◌∷◌, length, get_or, drop, set, ℤ, pos, ◌-ℤ◌, nat_abs, ◌≤ℤ◌, Iter, Option, sym, refl, ap, ◌∙◌, subst, arith}
+use Rattle.std.proofs.Common.{◌≡◌, Bool, true, false, cond, List, [], ◌∷◌, length, get_or, ℤ, pos, ◌-ℤ◌, ◌≤ℤ◌, Iter, Option, sym, refl, ap, ◌∙◌, subst, arith}
 use lib.Signed.{lt_z}
 use borrow.Author.Differences.{ints}
 use Rattle.std.specs.List.{AllByRecursion, FoldsTo}
@@ -7,31 +7,16 @@ use Rattle.std.specs.Prelude.{MatchOption}
 use Rattle.std.specs.Iterator.{Yields}
 use Rattle.std.specs.Int.{int_min}
 use denote.Ref.{Bor}
-use Rattle.std.proofs.lemmas.List.{drop_more}
 use Rattle.costs.specs.Kinds.{Kind}
 use Rattle.flows.specs.Kilter.{reduced}
 use Rattle.networks.specs.Nets.{IsAt}
-use Rattle.flows.specs.Laps.{sent, moved}
 use Rattle.networks.specs.declared.network.Arc.{Arc}
 use Rattle.flows.specs.Views.{Sees}
 use Rattle.flows.specs.declared.views.Seen.{Seen}
 use Rattle.flows.specs.declared.steps.Step.{Step}
-use Rattle.flows.specs.Fits.{Fit}
 use Rattle.flows.proofs.ArcSums.{same_at, at_place}
 use Rattle.labels.specs.Moves.{may, limit_at, room_at}
-use Rattle.labels.specs.Ways.{RoomIs, Moving, FitsIn, Steady}
-
-pub limit_small : {C : Type 0} (K : Kind C) (N : ℕ) (c : C) (a : Arc C) (along : Bool) → Fit K N a → nat_abs (limit_at K c a along) ≤ 1000000
-limit_small K N c a true f = go (K.le c K.zero)
-  where
-    go : (b : Bool) → nat_abs (cond b a.hi a.lo) ≤ 1000000
-    go true = f.high
-    go false = f.low
-limit_small K N c a false f = go (K.le K.zero c)
-  where
-    go : (b : Bool) → nat_abs (cond b a.lo a.hi) ≤ 1000000
-    go true = f.low
-    go false = f.high
+use Rattle.labels.specs.Ways.{RoomIs, Moving, FitsIn}
 
 -- the room that was found is that of the arc
 pub room_found : {C : Type 0} (K : Kind C) (arcs : List (Arc C)) (flow : List ℤ) (prices : List C) (s : Step) (e : Seen C) (x l : ℤ) → Sees K arcs flow prices s.arc e →
@@ -99,10 +84,3 @@ least_turns K arcs flow prices turn (x ∷ xs) s t p q (j, a, y) none (i, b, f) 
     let k = least_turns K arcs flow prices turn xs j t i q y none f (λ k l z o h. let r = tells k l z (o ∙ told.0) h in (r.0 ∙ sym told.0, r.1)) m.1 (subst (λ z. pos 1 ≤ℤ z) (sym e) (lesser_both p.1 _ low some)) in
     let first : q.1 ≤ℤ p.1 = le_trans q.1 i.1 p.1 k.1 (subst (λ z. z ≤ℤ p.1) (sym e) (lesser_first p.1 _)) in
     (k.0, first, subst (AllByRecursion (FitsIn K arcs flow prices q.1)) (sym a) ((λ c at. le_trans q.1 i.1 _ k.1 (subst (λ z. z ≤ℤ room_at K prices c x.now.along (get_or flow x.now.arc (pos 0))) (sym (told.1 c at)) (lesser_second p.1 _))), k.2))
-
--- the step at i, and those after it
-pub steady_here : (x : ℤ) (steps : List Step) (i : ℕ) (d : Step) (fs : List ℤ) → i < length steps → Steady x (drop i steps) fs → Steady x (get_or steps i d ∷ drop (i + 1) steps) fs
-steady_here x steps i d fs h s = subst (λ z. Steady x z fs) (drop_more steps i d h) s
-
-pub sent_here : (x : ℤ) (steps : List Step) (i : ℕ) (d : Step) (fs : List ℤ) → i < length steps → sent x (drop i steps) fs ≡ sent x (drop (i + 1) steps) (set fs (get_or steps i d).arc (moved x (get_or steps i d) fs))
-sent_here x steps i d fs h = ap (λ z. sent x z fs) (drop_more steps i d h)

@@ -20,9 +20,6 @@ invariant_of-next_pick g c =
       alike = t.alike ∙ sym t.sized;
     }
 
-pub next_pick-p-requires : goal.next_pick-p-requires
-next_pick-p-requires g c = omega (arith, c.loop.invariant.left)
-
 pub loop-preserved : goal.loop-preserved
 loop-preserved g c =
     labelled g.N.Cost.CostKind.kind g.met.N.Cost.CostKind.lawful (shown (g.N.Network.meaning c.args.net.now)) c.args.prices.now c.loop.prices c.loop.marks c.loop.counter c.loop.invariant c.requires.untidy.moderate
