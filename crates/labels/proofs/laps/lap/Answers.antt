@@ -1,10 +1,13 @@
 use Rattle.networks.specs.Nets.{shown}
-use Rattle.std.proofs.Common.{◌∷◌, sym, ap, ◌∙◌, subst, w32, SFits, to_z, of_z, rules}
+use Rattle.std.proofs.Common.{is_some, ◌∷◌, sym, ap, ◌∙◌, subst, w32, SFits, to_z, of_z, rules}
 use Rattle.std.specs.List.{AllByRecursion}
 use Rattle.std.proofs.lemmas.Int.{to_z-of_z}
 use Rattle.flows.specs.Laps.{sent}
 use Rattle.labels.specs.Ways.{Moving, FitsIn, Steady}
 use Rattle.labels.proofs.Trails.{sought_there, labelled_within, sought_place, all_moving, steady, gone}
+use Rattle.std.proofs.lemmas.Bool.{lt-ltb}
+use Rattle.labels.specs.Good.{place_of}
+use Rattle.labels.proofs.More.{is_placed}
 use Rattle.labels.proofs.laps.lap.Goals as goal
 
 pub place-requires : goal.place-requires
@@ -62,4 +65,7 @@ returns g c =
     (c.send.ensures ∙ ap (λ z. sent z c.as_slice-2.result.now c.args.flow.now) (to_z-of_z w32 x f) ∙ ap (λ z. sent x z c.args.flow.now) (c.as_slice-2.ensures.value ∙ t.1))
 
 pub unwrap-requires : goal.unwrap-requires
-unwrap-requires g c = let h = c.requires.reached in search rules
+unwrap-requires g c =
+    let ls = c.args.labels.now in
+    let n = c.args.chosen.node in
+    ap is_some c.place.ensures ∙ is_placed ls n ∙ lt-ltb 0 (place_of ls n) c.requires.reached
