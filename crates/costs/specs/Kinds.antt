@@ -1,5 +1,7 @@
 -- What a cost kind is: costs that can be added, multiplied, negated and compared, each with a size.
 use Rattle.std.specs.Prelude.{◌≡◌, ℕ, zero, suc, ◌+◌, ◌*◌, ◌≤◌, Bool, true, false, cond, not, ℤ, pos, negsuc, Some, None, Option, nat_le, unsigned_abs}
+use Rattle.std.specs.Ordering.{partial_le, partial_lt}
+use Rattle.std.specs.declared.cmp.Ordering.{Ordering}
 
 -- what adding costs up takes: no order and no negative
 pub record Sums (C : Type 0) : Type 0 where
@@ -52,6 +54,11 @@ pub record Laws {C : Type 0} (K : Kind C) : Type 0 where
   pub antisym : (a b : C) → K.le a b ≡ true → K.le b a ≡ true → a ≡ b
   pub trans : (a b c : C) → K.le a b ≡ true → K.le b c ≡ true → K.le a c ≡ true
   pub mono : (a b c : C) → K.le a b ≡ true → K.le (K.plus a c) (K.plus b c) ≡ true
+
+-- the comparisons of a type tell the kind's order
+pub record Ordered {C : Type 0} (K : Kind C) (partial_cmp : C → C → Option Ordering) : Type 0 where
+  pub at_most : (a b : C) → partial_le partial_cmp a b ≡ K.le a b
+  pub below : (a b : C) → partial_lt partial_cmp a b ≡ less K a b
 
 -- the largest size that an operation answers
 abbrev pub size_limit : ℕ

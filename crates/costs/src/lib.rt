@@ -8,8 +8,10 @@
 // Not promised: that a cost made by hand has a size within the limit; the operations take any.
 #![tactic(auto)]
 
+ghost use Rattle.std.proofs.Common.{rules};
+ghost use Rattle.std.proofs.lemmas.Int.{ints};
 ghost use Rattle.std.specs.Prelude.{◌≡◌, ℕ, ℤ, ◌+ℤ◌, ◌*ℤ◌, neg_ℤ, unsigned_abs};
-ghost use Rattle.costs.specs.Kinds.{Kind, Laws, answered};
+ghost use Rattle.costs.specs.Kinds.{Kind, Laws, Ordered, answered};
 ghost use Rattle.costs.specs.Models.{plain_kind, two_tier_kind, joined};
 ghost use Rattle.costs.specs.PlainLaws.{plain_laws};
 ghost use Rattle.costs.specs.TwoTierLaws.{two_tier_laws};
@@ -18,7 +20,7 @@ ghost use Rattle.costs.specs.TwoTierLaws.{two_tier_laws};
 pub const SIZE_LIMIT: i64 = 4_000_000_000_000_000;
 
 // A kind of costs.
-pub trait CostKind: Copy {
+pub trait CostKind: Copy + Ord {
     // The true operations.
     ghost kind: { Kind Self };
 
@@ -35,14 +37,20 @@ pub trait CostKind: Copy {
     fn times(self, k: i32) -> Option<Self>
         ensures { result ≡ answered kind.size (kind.times k self) };
 
-    // Whether it is below the other or equal to it.
-    fn at_most(self, other: Self) -> bool
-        ensures { result ≡ kind.le self other };
-
     fn size(self) -> u64
         ensures { result ≡ kind.size self };
 
+    // Whether it is below the other or equal to it, as `<=` says too.
+    final fn at_most(self, other: Self) -> bool
+        ensures { result ≡ kind.le self other }
+    {
+        self <= other
+    }
+
     ghost lawful: { Laws kind };
+
+    // The comparisons of the type are those of the kind.
+    ghost ordered: { Ordered kind Self.partial_cmp };
 }
 
 // One whole number.
@@ -88,6 +96,8 @@ impl CostKind for Plain {
 
     ghost lawful = { plain_laws };
 
+    ghost ordered = { record { at_most = λ a b. Prim.grind (rules, ints); below = λ a b. Prim.grind (rules, ints) } };
+
     fn zero() -> Plain {
         Plain { units: 0 }
     }
@@ -110,10 +120,6 @@ impl CostKind for Plain {
         })
     }
 
-    fn at_most(self, other: Plain) -> bool {
-        self <= other
-    }
-
     fn size(self) -> u64 {
         self.units.unsigned_abs()
     }
@@ -134,6 +140,8 @@ impl CostKind for TwoTier {
 
     ghost lawful = { two_tier_laws };
 
+    ghost ordered = { record { at_most = λ a b. Prim.grind (rules, ints); below = λ a b. Prim.grind (rules, ints) } };
+
     fn zero() -> TwoTier {
         TwoTier {
             first: 0,
@@ -151,10 +159,6 @@ impl CostKind for TwoTier {
 
     fn times(self, k: i32) -> Option<TwoTier> {
         both(product(k, self.first), product(k, self.second))
-    }
-
-    fn at_most(self, other: TwoTier) -> bool {
-        self <= other
     }
 
     fn size(self) -> u64 {
