@@ -1,7 +1,7 @@
 // The hour chain: a network of hours whose bounds and costs are kept in a lent table, and whose ends are worked out.
 
 ghost use Rattle.std.specs.Prelude.{◌≡◌, ℕ, ◌+◌, ◌-◌, length, refl};
-ghost use Rattle.networks.specs.Answers.{answer, said};
+ghost use Rattle.networks.specs.Answers.{refusal};
 ghost use Rattle.hours.specs.Hours.{chain_stop, chain_net, hours_net, hour_of as the_hour_of, source_of, ends, hour_arc};
 
 use costs::CostKind;
@@ -24,7 +24,7 @@ enum Source {
 }
 
 // The bounds and the cost of one arc.
-#[derive(Clone, Copy)]
+#[derive(Clone, Copy, Debug, PartialEq, Eq)]
 pub struct HourRow<C> {
     pub lo: i32,
     pub hi: i32,
@@ -79,15 +79,7 @@ impl<C: CostKind> ArcRow for HourRow<C> {
 
     fn as_arc(self, nodes: usize, i: usize) -> Arc<C> {
         let (from, to) = ends(nodes, i);
-        Arc {
-            from,
-            to,
-            lo: self.lo,
-            hi: self.hi,
-            cost: self.cost,
-            held: false,
-            fixed: false,
-        }
+        Arc::free(from, to, self.lo, self.hi, self.cost)
     }
 
     fn rebound(self, b: Bounds) -> HourRow<C> {
@@ -112,9 +104,9 @@ pub struct HourChain<'a, C> {
 impl<'a, C> HourChain<'a, C> {
     // Why a chain of so many hours cannot be made of these rows, if so.
     pub fn check(hours: usize, rows: &[HourRow<C>]) -> Result<(), Stop>
-        ensures { said result ≡ answer (chain_stop hours (length rows.now)) tt }
+        ensures { refusal result ≡ chain_stop hours (length rows.now) }
     {
-        if hours == 0 || hours > MOST_HOURS {
+        if !(1..=MOST_HOURS).contains(&hours) {
             return Err(Stop::Counts);
         }
         if rows.len() != ARCS * hours {

@@ -3,32 +3,25 @@ use Rattle.std.proofs.Common.{◌≡◌, ℕ, ◌+◌, ◌-◌, ◌<◌, ◌≤�
 use Rattle.std.specs.List.{slice_get, refill}
 use Rattle.std.specs.Option.{option_map}
 use Rattle.std.proofs.lemmas.List.{length-map, length-set, length-append, map-set, set-append_left, set_at}
-use Rattle.std.proofs.lemmas.Option.{slice_get-get_or, slice_get_past}
+use Rattle.std.proofs.lemmas.Option.{slice_get-get_or, slice_get-map, slice_get_past}
 use Rattle.std.proofs.lemmas.Bool.{leb-true, leb-false, le-leb, lt-leb}
 use Rattle.arrayvec.proofs.ArrayVecLemmas.{items-with_items}
 use Rattle.networks.specs.declared.network.Arc.{Arc}
 use Rattle.networks.specs.declared.bounds.Bounds.{Bounds}
 use Rattle.networks.specs.Limits.{most_nodes, most_arcs, cost_limit}
-use Rattle.networks.specs.Answers.{Told, answer, unless}
+use Rattle.networks.specs.Answers.{Told, unless}
 use Rattle.networks.specs.Nets.{Lock, Net, numbered, replaced, shown_arc, arc_at, held_stop, rebound_stop, with_bounds, rebounded, cost_stop, recost_stop, with_cost, recosted, lock_at, relocked, line_stop, take_out_stop, relined, taken, back_stop, hand_back_stop, handed_back}
+use Rattle.networks.proofs.Shown.{unlocked}
 use Rattle.layers.specs.declared.entry.Entry.{Entry}
 use Rattle.layers.specs.declared.closing.Closing.{Closing}
 use Rattle.layers.specs.declared.closing.Part.{Part}
 use Rattle.layers.specs.Closings.{entry_arc, return_arc, within, closed_net, closing_stop, no_net, closing_net, is_lower, Lies}
-use Rattle.layers.proofs.Joined.{item_at, nth_left, nth_right, nth_map, numbered_left, numbered_right, length_replaced, replaced_left, replaced_right}
+use Rattle.layers.proofs.Joined.{item_at, nth_left, nth_right, numbered_left, numbered_right, length_replaced, replaced_left, replaced_right}
 use Rattle.layers.proofs.Reach.{is_out_lower, line_lower, back_lower, is_out_upper, line_upper, back_upper, lock_through, with_through}
-
--- the answer that is due for a stop
-pub due : {X : Type 0} (x : X) (s z : Option Told) → s ≡ z → answer s x ≡ answer z x
-due x s z e = ap (λ o. answer o x) e
 
 past_unless : {X Y : Type 0} (F : X → Y) (s : Option Told) (x y : X) → F (unless s x y) ≡ unless s (F x) (F y)
 past_unless F None x y = refl
 past_unless F (Some s) x y = refl
-
-unlocked : {C : Type 0} (o : Option (Arc C)) → option_map (shown_arc false) o ≡ o
-unlocked None = refl
-unlocked (Some x) = refl
 
 -- one arc of a network made another
 abbrev amended : {C : Type 0} → Net C → ℕ → (Arc C → Arc C) → Net C
@@ -133,7 +126,7 @@ module _ {N C : Type 0} (meaning : N → Net C) (zero : C) (over : Closing N C) 
       own_entry : slice_get own i ≡ Some (as_arc x)
       own_entry =
           let m = length-map es as_arc in
-          nth_left (map as_arc es) _ i (omega (arith, m)) ∙ nth_map as_arc es i ∙ ap (option_map as_arc) (slice_get-get_or es i y l)
+          nth_left (map as_arc es) _ i (omega (arith, m)) ∙ slice_get-map as_arc es i ∙ ap (option_map as_arc) (slice_get-get_or es i y l)
 
       pub arc_entry : Some (as_arc x) ≡ arc_at net a
       arc_entry = sym own_entry ∙ arc_upper a i h
@@ -227,7 +220,7 @@ module _ {N C : Type 0} (meaning : N → Net C) (zero : C) (over : Closing N C) 
     where
       go : (s : Option Told) → unless s false (leb a count) ≡ true → (s ≡ None) × (a ≤ count)
       go None q = (refl, leb-true a count q)
-      go (Some s) q = absurd (let z : ◌≡◌ {A = ℕ} 0 1 = cc in omega arith)
+      go (Some s) q = cc
 
   module _ (l a : ℕ) (is : is_lower n a ≡ true) where
     e : closing_stop n ≡ None

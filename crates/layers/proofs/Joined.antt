@@ -23,11 +23,6 @@ nth_on (x ∷ xs) ys i = let e : suc (length xs) + i ≡ suc (length xs + i) = o
 pub nth_right : {X : Type 0} (xs ys : List X) (k i : ℕ) → k ≡ length xs + i → slice_get (xs ++ ys) k ≡ slice_get ys i
 nth_right xs ys k i e = ap (slice_get (xs ++ ys)) e ∙ nth_on xs ys i
 
-pub nth_map : {X Y : Type 0} (f : X → Y) (xs : List X) (i : ℕ) → slice_get (map f xs) i ≡ option_map f (slice_get xs i)
-nth_map f [] i = refl
-nth_map f (x ∷ xs) zero = refl
-nth_map f (x ∷ xs) (suc i) = nth_map f xs i
-
 -- ---- counted from 1
 
 pub numbered_left : {X : Type 0} (xs ys : List X) (a : ℕ) → a ≤ length xs → numbered (xs ++ ys) a ≡ numbered xs a

@@ -58,7 +58,7 @@ put_within n x y h k (z ∷ zs) = go (put_within n x y h k zs) (eqb z x) (leb z 
     go : lines_within n (set zs (place x zs) y) ≡ set (lines_within n zs) (place x (lines_within n zs)) y → (b d : Bool) → eqb z x ≡ b → leb z n ≡ d →
         lines_within n (set (z ∷ zs) (cond b 0 (suc (place x zs))) y) ≡ set (cond d (z ∷ lines_within n zs) (lines_within n zs)) (place x (cond d (z ∷ lines_within n zs) (lines_within n zs))) y
     go rest true true p q = kept (lines_within n zs) ∙ sym (ap (λ b. set (z ∷ lines_within n zs) (cond b 0 (suc (place x (lines_within n zs)))) y) p)
-    go rest true false p q = absurd (let bad : true ≡ false = sym p ∙ other n x z h q in let t : ◌≡◌ {A = ℕ} 0 1 = cc in omega arith)
+    go rest true false p q = let bad = sym p ∙ other n x z h q in cc
     go rest false true p q = ap (λ d. cond d (z ∷ lines_within n (set zs (place x zs) y)) (lines_within n (set zs (place x zs) y))) q
         ∙ ap (λ ws. z ∷ ws) rest
         ∙ sym (ap (λ b. set (z ∷ lines_within n zs) (cond b 0 (suc (place x (lines_within n zs)))) y) p)

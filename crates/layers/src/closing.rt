@@ -1,7 +1,7 @@
 // Closing: supplies and demands over any network, and the arc that closes the flow.
 
 ghost use Rattle.std.specs.Prelude.{◌≡◌, ℕ, ◌≤◌, []};
-ghost use Rattle.networks.specs.Answers.{answer, said};
+ghost use Rattle.networks.specs.Answers.{refusal};
 ghost use Rattle.layers.specs.declared.entry.Side.TheVariants.{Supply, Demand};
 ghost use Rattle.layers.specs.Closings.{closing_stop, closing_net, entry_stop, added, return_arc as return_arc_of, is_fit as is_fit_of, is_lower as is_lower_of, Keeps, Lies};
 
@@ -37,11 +37,11 @@ enum Part {
 impl<N: Network> Closing<N, N::Cost> {
     // Why a closing cannot stand over this network, if so.
     pub fn check(below: &N) -> Result<(), Stop>
-        ensures { said result ≡ answer (closing_stop (N.Network.meaning below.now)) tt }
+        ensures { refusal result ≡ closing_stop (N.Network.meaning below.now) }
     {
         // Two nodes and an arc come on top.
         let nodes = below.nodes();
-        if nodes == 0 || nodes > MOST_NODES - 2 || below.arcs() > MOST_ARCS - 1 {
+        if !(1..=MOST_NODES - 2).contains(&nodes) || below.arcs() > MOST_ARCS - 1 {
             return Err(Stop::Counts);
         }
         Ok(())
@@ -61,7 +61,7 @@ impl<N: Network> Closing<N, N::Cost> {
 
     // Adds a supply at a node below: an arc from the source to it.
     pub fn supply(&mut self, node: usize, bounds: Bounds) -> Result<(), Stop>
-        ensures answers { said result ≡ answer (entry_stop (N.Network.meaning self.old.below) self.old.entries.items node) tt }
+        ensures answers { refusal result ≡ entry_stop (N.Network.meaning self.old.below) self.old.entries.items node }
         ensures leaves { Keeps self.new self.old.below (added (N.Network.meaning self.old.below) self.old.entries.items (record { node = node; bounds = bounds; side = Supply })) self.old.bounds self.old.cost }
     {
         self.add(Entry {
@@ -73,7 +73,7 @@ impl<N: Network> Closing<N, N::Cost> {
 
     // Adds a demand at a node below: an arc from it to the sink.
     pub fn demand(&mut self, node: usize, bounds: Bounds) -> Result<(), Stop>
-        ensures answers { said result ≡ answer (entry_stop (N.Network.meaning self.old.below) self.old.entries.items node) tt }
+        ensures answers { refusal result ≡ entry_stop (N.Network.meaning self.old.below) self.old.entries.items node }
         ensures leaves { Keeps self.new self.old.below (added (N.Network.meaning self.old.below) self.old.entries.items (record { node = node; bounds = bounds; side = Demand })) self.old.bounds self.old.cost }
     {
         self.add(Entry {
@@ -84,10 +84,10 @@ impl<N: Network> Closing<N, N::Cost> {
     }
 
     fn add(&mut self, e: Entry) -> Result<(), Stop>
-        ensures answers { said result ≡ answer (entry_stop (N.Network.meaning self.old.below) self.old.entries.items e.node) tt }
+        ensures answers { refusal result ≡ entry_stop (N.Network.meaning self.old.below) self.old.entries.items e.node }
         ensures leaves { Keeps self.new self.old.below (added (N.Network.meaning self.old.below) self.old.entries.items e) self.old.bounds self.old.cost }
     {
-        if e.node == 0 || e.node > self.below.nodes() {
+        if !(1..=self.below.nodes()).contains(&e.node) {
             return Err(Stop::Absent(e.node));
         }
         if self.entries.is_full() {
@@ -113,15 +113,13 @@ impl<N: Network> Closing<N, N::Cost> {
         ensures { result ≡ return_arc_of (N.Network.meaning self.now.below).nodes self.now.bounds self.now.cost }
     {
         let nodes = self.below.nodes();
-        Arc {
-            from: nodes + 1,
-            to: nodes + 2,
-            lo: self.bounds.lo(),
-            hi: self.bounds.hi(),
-            cost: self.cost,
-            held: false,
-            fixed: false,
-        }
+        Arc::free(
+            nodes + 1,
+            nodes + 2,
+            self.bounds.lo(),
+            self.bounds.hi(),
+            self.cost,
+        )
     }
 
     // Whether arc a is one of those below.
@@ -157,11 +155,10 @@ impl<N: Network> Network for Closing<N, N::Cost> {
     ghost meaning = { λ s. closing_net (N.Network.meaning s.below) N.Cost.CostKind.kind.zero s.entries.items s.bounds s.cost };
 
     fn nodes(&self) -> usize {
-        if self.is_fit() {
-            self.below.nodes() + 2
-        } else {
-            0
+        if !self.is_fit() {
+            return 0;
         }
+        self.below.nodes() + 2
     }
 
     fn arcs(&self) -> usize {
@@ -172,11 +169,10 @@ impl<N: Network> Network for Closing<N, N::Cost> {
     }
 
     fn lockouts(&self) -> usize {
-        if self.is_fit() {
-            self.below.lockouts()
-        } else {
-            0
+        if !self.is_fit() {
+            return 0;
         }
+        self.below.lockouts()
     }
 
     fn arc(&self, a: usize) -> Option<Arc<N::Cost>> {

@@ -32,13 +32,8 @@ impl Entry {
             Side::Demand => (self.node, nodes + 1),
         };
         Arc {
-            from,
-            to,
-            lo: self.bounds.lo(),
-            hi: self.bounds.hi(),
-            cost: zero,
-            held: false,
             fixed: true,
+            ..Arc::free(from, to, self.bounds.lo(), self.bounds.hi(), zero)
         }
     }
 }

@@ -17,15 +17,15 @@ no_place xs a = go (eqb a 0) (ltb (length xs) a) refl
     go : (b d : Bool) → ltb (length xs) a ≡ d → None ≡ cond (b || d) None (Some (a - 1)) → None ≡ cond b None (slice_get xs (a - 1))
     go true d q e = refl
     go false true q e = sym (slice_get_past xs (a - 1) (omega (arith, ltb-true)))
-    go false false q e = absurd (let z : ◌≡◌ {A = ℕ} 0 1 = cc in omega arith)
+    go false false q e = cc
 
 -- a number is one above its place, and a place is that of a row
 pub a_place : (n a i : ℕ) → Some i ≡ place_of n a → (i + 1 ≡ a) × (i < n)
 a_place n a i = go (eqb a 0) (ltb n a) refl refl
   where
     go : (b d : Bool) → eqb a 0 ≡ b → ltb n a ≡ d → Some i ≡ cond (b || d) None (Some (a - 1)) → (i + 1 ≡ a) × (i < n)
-    go true d p q e = absurd (let z : ◌≡◌ {A = ℕ} 0 1 = cc in omega arith)
-    go false true p q e = absurd (let z : ◌≡◌ {A = ℕ} 0 1 = cc in omega arith)
+    go true d p q e = cc
+    go false true p q e = cc
     go false false p q e = let j : i ≡ a - 1 = cc in (omega (arith, eqb-false), omega (arith, eqb-false, ltb-false))
 
 -- where there is a place there is a row

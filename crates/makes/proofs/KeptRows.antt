@@ -1,19 +1,16 @@
 -- A network that is kept in rows: what it shows of a row, and what is left when one row is rewritten.
-use Rattle.std.proofs.Common.{◌≡◌, ℕ, ◌+◌, ◌-◌, ◌<◌, ◌≤◌, Bool, true, false, cond, leb, List, length, get_or, set, ℤ, Some, None, Option, sym, refl, ap, ◌∙◌, subst, arith}
+use Rattle.std.proofs.Common.{◌≡◌, ℕ, ◌+◌, ◌-◌, ◌<◌, ◌≤◌, Bool, true, false, cond, leb, List, length, get_or, set, ℤ, Some, None, Option, sym, ap, ◌∙◌, subst, arith}
 use Rattle.std.specs.Option.{option_map}
 use Rattle.std.proofs.lemmas.Option.{slice_get-get_or}
 use Rattle.std.proofs.lemmas.Bool.{le-leb, lt-leb}
 use Rattle.networks.specs.declared.network.Arc.{Arc}
 use Rattle.networks.specs.Limits.{cost_limit}
-use Rattle.networks.specs.Answers.{Told, answer, unless}
+use Rattle.networks.specs.Answers.{Told, unless}
 use Rattle.networks.specs.Nets.{Net, numbered, replaced, is_out, shown_arc, arc_at, held_stop, rebound_stop, with_bounds, rebounded, cost_stop, recost_stop, with_cost, recosted}
 use Rattle.networks.proofs.Numbered.{numbered_next}
+use Rattle.networks.proofs.Shown.{unlocked}
 use Rattle.makes.specs.Bases.{base_net, arcs_from, place_of}
 use Rattle.makes.proofs.Counted.{no_place, a_place, some_row, nth_from, set_from, length_from}
-
--- the answer that is due for a stop
-pub due : (s z : Option Told) → s ≡ z → answer {X = Unit {0}} s tt ≡ answer {X = Unit {0}} z tt
-due s z e = ap (λ o. answer {X = Unit {0}} o tt) e
 
 -- ---- any network
 
@@ -36,10 +33,6 @@ module _ {C : Type 0} (n : Net C) (a : ℕ) {count : ℕ} (e : count ≡ length 
   recost_absent size c = let s : Some (8, a) ≡ recost_stop size n a c = ap (cost_stop size a c) arc_absent in (s, cost_refused n a size c (8, a) s)
 
 -- ---- one with no lock-out
-
-unlocked : {C : Type 0} (o : Option (Arc C)) → option_map (shown_arc false) o ≡ o
-unlocked None = refl
-unlocked (Some x) = refl
 
 module _ {C : Type 0} (nodes : ℕ) (arcs : List (Arc C)) (a : ℕ) where
   abbrev base : Net C

@@ -7,8 +7,5 @@ ghost use Rattle.makes.specs.Bases.{place_of};
 pub fn place_of(count: usize, a: usize) -> Option<usize>
     ensures { result ≡ place_of count a }
 {
-    if a == 0 || a > count {
-        return None;
-    }
-    Some(a - 1)
+    a.checked_sub(1).filter(|i| *i < count)
 }

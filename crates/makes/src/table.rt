@@ -1,21 +1,35 @@
 // The arc table: a network kept as rows in a lent table.
 
 ghost use Rattle.std.specs.Prelude.{◌≡◌, ℕ, length, refl};
-ghost use Rattle.networks.specs.Answers.{answer, said};
+ghost use Rattle.networks.specs.Answers.{refusal};
 ghost use Rattle.makes.specs.Tables.{table_stop, table_net, rows_net, row_arc};
 
 use crate::kept::{ArcRow, Kept};
 use costs::CostKind;
-use networks::{Arc, Bounds, MOST_ARCS, MOST_NODES, Stop};
+use networks::{Arc, Bounds, Stop, check_counts};
 
 // One arc: its ends, its bounds and its cost.
-#[derive(Clone, Copy)]
+#[derive(Clone, Copy, Debug, PartialEq, Eq)]
 pub struct Row<C> {
     pub from: usize,
     pub to: usize,
     pub lo: i32,
     pub hi: i32,
     pub cost: C,
+}
+
+impl<C> Row<C> {
+    pub fn new(from: usize, to: usize, lo: i32, hi: i32, cost: C) -> Row<C>
+        ensures { result ≡ record { from = from; to = to; lo = lo; hi = hi; cost = cost } }
+    {
+        Row {
+            from,
+            to,
+            lo,
+            hi,
+            cost,
+        }
+    }
 }
 
 // A row has its ends in it, whatever its number.
@@ -29,15 +43,7 @@ impl<C: CostKind> ArcRow for Row<C> {
     ghost loose = { λ n a r. refl };
 
     fn as_arc(self, _nodes: usize, _i: usize) -> Arc<C> {
-        Arc {
-            from: self.from,
-            to: self.to,
-            lo: self.lo,
-            hi: self.hi,
-            cost: self.cost,
-            held: false,
-            fixed: false,
-        }
+        Arc::free(self.from, self.to, self.lo, self.hi, self.cost)
     }
 
     fn rebound(self, b: Bounds) -> Row<C> {
@@ -58,11 +64,9 @@ pub type ArcTable<'a, C> = Kept<'a, Row<C>>;
 impl<'a, C> Kept<'a, Row<C>> {
     // Why a table of these counts cannot be made of these rows, if so.
     pub fn check(nodes: usize, arcs: usize, rows: &[Row<C>]) -> Result<(), Stop>
-        ensures { said result ≡ answer (table_stop nodes arcs (length rows.now)) tt }
+        ensures { refusal result ≡ table_stop nodes arcs (length rows.now) }
     {
-        if nodes == 0 || nodes > MOST_NODES || arcs > MOST_ARCS {
-            return Err(Stop::Counts);
-        }
+        check_counts(nodes, arcs)?;
         if rows.len() != arcs {
             return Err(Stop::Lengths);
         }

@@ -7,13 +7,7 @@ use std::test::Fail;
 
 #[test]
 fn pile_of_lockouts(rt: HostRuntime) -> Result<(), Fail> {
-    let mut rows = [Row {
-        from: 1,
-        to: 2,
-        lo: 0,
-        hi: 5,
-        cost: Plain { units: 3 },
-    }; 2];
+    let mut rows = [Row::new(1, 2, 0, 5, Plain { units: 3 }); 2];
     let mut pile = Lockout::new(Lockout::new(ArcTable::new(2, 2, &mut rows)));
     assert_eq!(rt; pile.lockouts(), 2);
     assert_eq!(rt; try_out(&mut pile, 1, 2), Ok(()));

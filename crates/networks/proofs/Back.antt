@@ -1,20 +1,19 @@
 -- An arc that was taken out can be handed back at once, and the network is then as it was.
-use Rattle.std.proofs.Common.{◌≡◌, ℕ, suc, ◌<◌, ◌≤◌, Bool, true, false, cond, ◌||◌, eqb, ltb, List, [], ◌∷◌, length, set, Some, None, Ok, Err, Option, sym, refl, ap, ◌∙◌, arith}
+use Rattle.std.proofs.Common.{◌≡◌, ℕ, suc, ◌<◌, ◌≤◌, Bool, true, false, cond, ◌||◌, eqb, ltb, List, [], ◌∷◌, length, set, Some, None, Ok, Err, Option, Result, sym, refl, ap, ◌∙◌, arith}
 use Rattle.std.proofs.lemmas.List.{length-set, set-set, set-get_or}
 use Rattle.std.proofs.lemmas.Bool.{cond-true, cond-false, lt-ltb, ltb-true, ltb-false, or_parts}
 use Rattle.networks.specs.declared.stops.Stop.{Stop}
 use Rattle.networks.specs.declared.tags.Tag.{Tag}
-use Rattle.networks.specs.Stops.{told}
-use Rattle.networks.specs.Answers.{Told, answer, answer_back, unless}
+use Rattle.networks.specs.Answers.{Told, answer, answer_back, returned, unless}
 use Rattle.networks.specs.Nets.{Lock, Net, place, has, out_at, lock_at, with_lock, relocked, line_stop, take_out_stop, relined, taken, back_stop, hand_back_stop, handed_back}
 use Rattle.networks.proofs.Places.{place_at, place_written}
 
 -- ---- at the lock-out itself
 
 free : (p q r : Bool) (s t u : Told) → cond p (Some s) (cond q (Some t) (cond r None (Some u))) ≡ None → (p ≡ false) × (q ≡ false) × (r ≡ true)
-free true q r s t u e = absurd (let z : ◌≡◌ {A = ℕ} 0 1 = cc in omega arith)
-free false true r s t u e = absurd (let z : ◌≡◌ {A = ℕ} 0 1 = cc in omega arith)
-free false false false s t u e = absurd (let z : ◌≡◌ {A = ℕ} 0 1 = cc in omega arith)
+free true q r s t u e = cc
+free false true r s t u e = cc
+free false false false s t u e = cc
 free false false true s t u e = (refl, refl, refl)
 
 here : (o : Lock) (a : ℕ) → line_stop a (Some o) ≡ None → (out_at (relined 0 a o) a ≡ true) × (relined a 0 (relined 0 a o) ≡ o)
@@ -32,7 +31,7 @@ here o a e =
 
 -- ---- at one lock-out of a pile
 
-length_with : (os : List Lock) (l : ℕ) (f : Lock → Lock) → length (with_lock os l f) ≡ length os
+pub length_with : (os : List Lock) (l : ℕ) (f : Lock → Lock) → length (with_lock os l f) ≡ length os
 length_with [] l f = refl
 length_with (o ∷ os) l f = go (eqb l (suc (length os))) (length_with os l f)
   where
@@ -44,7 +43,7 @@ abbrev Undone : List Lock → ℕ → ℕ → List Lock → Type 0
 Undone after l a before = (back_stop a (lock_at after l) ≡ None) × (with_lock after l (relined a 0) ≡ before)
 
 back : (os : List Lock) (l a : ℕ) → line_stop a (lock_at os l) ≡ None → Undone (with_lock os l (relined 0 a)) l a os
-back [] l a e = absurd (let z : ◌≡◌ {A = ℕ} 0 1 = cc in omega arith)
+back [] l a e = cc
 back (o ∷ os) l a e = go (eqb l (suc (length os))) refl (back os l a) e
   where
     go : (b : Bool) → eqb l (suc (length os)) ≡ b → (line_stop a (lock_at os l) ≡ None → Undone (with_lock os l (relined 0 a)) l a os) → line_stop a (cond b (Some o) (lock_at os l)) ≡ None → Undone (cond b (relined 0 a o ∷ os) (o ∷ with_lock os l (relined 0 a))) l a (o ∷ os)
@@ -74,7 +73,7 @@ module _ {C : Type 0} (n : Net C) (l a : ℕ) (e : take_out_stop n l a ≡ None)
 -- what a tag says of the call that gave it
 granted : (s : Option Told) (x a : ℕ) → Ok x ≡ answer s a → (s ≡ None) × (x ≡ a)
 granted None x a h = (refl, cc)
-granted (Some s) x a h = absurd (let z : ◌≡◌ {A = ℕ} 0 1 = cc in omega arith)
+granted (Some s) x a h = cc
 
 -- where it was refused, all is as it was
 pub stopped : {C : Type 0} (n m : Net C) (l a : ℕ) (s : Told) → Err s ≡ answer (take_out_stop n l a) a → m ≡ taken n l a → (Some s ≡ take_out_stop n l a) × (m ≡ n)
@@ -83,7 +82,7 @@ stopped n m l a s h after =
     (e, after ∙ sym (ap (λ o. unless o n (relocked n l (relined 0 a))) e))
   where
     go : (o : Option Told) → Err s ≡ answer o a → Some s ≡ o
-    go None q = absurd (let z : ◌≡◌ {A = ℕ} 0 1 = cc in omega arith)
+    go None q = cc
     go (Some t) q = cc
 
 -- n before the take-out, m after it, and k after the hand-back
@@ -93,10 +92,13 @@ module _ {C : Type 0} (n m : Net C) (l a : ℕ) (t : Tag) (given : Ok t.arc ≡ 
       let g = granted (take_out_stop n l a) t.arc a given in
       (sym g.0, h ∙ ap (λ p. handed_back p l t.arc) after ∙ ap (handed_back (taken n l a) l) g.1 ∙ restored n l a g.0)
 
-  pub never_refused : (s : Stop) (u : Tag) → Err (told s, u) ≡ answer_back (hand_back_stop m l t.arc) t → ⊥
-  never_refused s u h =
+  -- the hand-back is granted
+  pub handed : (r : Result (Unit {0}) (Stop × Tag)) → returned r ≡ answer_back (hand_back_stop m l t.arc) t → r ≡ Ok tt
+  handed r h =
       let g = granted (take_out_stop n l a) t.arc a given in
       let none : hand_back_stop m l t.arc ≡ None = ap (λ p. hand_back_stop p l t.arc) after ∙ ap (hand_back_stop (taken n l a) l) g.1 ∙ accepted n l a g.0 in
-      let bad = h ∙ ap (λ o. answer_back o t) none in
-      let z : ◌≡◌ {A = ℕ} 0 1 = cc in
-      omega arith
+      go r (h ∙ ap (λ o. answer_back o t) none)
+    where
+      go : (x : Result (Unit {0}) (Stop × Tag)) → returned x ≡ Ok tt → x ≡ Ok tt
+      go (Ok u) e = refl
+      go (Err e) q = cc

@@ -6,13 +6,13 @@ use Rattle.std.proofs.lemmas.Bool.{cond-false, ne_eqb}
 use Rattle.networks.specs.Nets.{numbered, IsAt}
 
 pub nth_at : {X : Type 0} (xs : List X) (i : ℕ) (x : X) → Some x ≡ slice_get xs i → IsAt xs i x
-nth_at [] i x e = absurd (let z : ◌≡◌ {A = ℕ} 0 1 = cc in omega arith)
+nth_at [] i x e = cc
 nth_at (y ∷ ys) zero x e = (omega arith, cc)
 nth_at (y ∷ ys) (suc i) x e = let r = nth_at ys i x e in (omega (arith, r.0), r.1)
 
 pub nth_none : {X : Type 0} (xs : List X) (i : ℕ) → i < length xs → None ≡ slice_get xs i → ⊥
 nth_none [] i h e = omega arith
-nth_none (x ∷ xs) zero h e = let z : ◌≡◌ {A = ℕ} 0 1 = cc in omega arith
+nth_none (x ∷ xs) zero h e = cc
 nth_none (x ∷ xs) (suc i) h e = nth_none xs i (omega arith) e
 
 -- the number after i is at place i

@@ -1,11 +1,16 @@
 -- What a network answers arc by arc is the list that it shows.
-use Rattle.std.proofs.Common.{◌≡◌, ℕ, zero, suc, ◌+◌, ◌-◌, ◌<◌, Bool, true, false, cond, eqb, List, [], ◌∷◌, length, drop, Some, None, sym, refl, ap, ◌∙◌, arith}
+use Rattle.std.proofs.Common.{◌≡◌, ℕ, zero, suc, ◌+◌, ◌-◌, ◌<◌, Bool, true, false, cond, eqb, List, [], ◌∷◌, length, drop, Some, None, Option, sym, refl, ap, ◌∙◌, arith}
 use borrow.Author.Tests.{eqb-false}
 use Rattle.std.specs.List.{slice_get}
 use Rattle.std.specs.Option.{option_map}
 use Rattle.networks.specs.declared.network.Arc.{Arc}
 use Rattle.networks.specs.Nets.{Lock, Net, IsAt, numbered, is_out, shown_arc, arc_at, shown_from, shown}
 use Rattle.networks.proofs.Numbered.{nth_at, nth_none, numbered_next, at_drop}
+
+-- an arc that is not out shows as it is
+pub unlocked : {C : Type 0} (o : Option (Arc C)) → option_map (shown_arc false) o ≡ o
+unlocked None = refl
+unlocked (Some x) = refl
 
 placed : {C : Type 0} (k : ℕ) (locks : List Lock) (arcs : List (Arc C)) (i : ℕ) → slice_get (shown_from k locks arcs) i ≡ option_map (shown_arc (is_out locks (k + i))) (slice_get arcs i)
 placed k locks [] i = refl

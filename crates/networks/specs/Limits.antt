@@ -7,6 +7,10 @@ most_nodes = 256
 abbrev pub most_arcs : ℕ
 most_arcs = 1024
 
+-- there are 1 to 256 nodes and at most 1,024 arcs
+abbrev pub counts_fit : ℕ → ℕ → Bool
+counts_fit nodes arcs = nat_le 1 nodes && (nat_le nodes most_nodes && nat_le arcs most_arcs)
+
 -- the largest count that a call can answer
 abbrev pub most_counted : ℕ
 most_counted = 18446744073709551615

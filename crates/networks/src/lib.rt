@@ -24,7 +24,7 @@ mod tags;
 mod trying;
 
 pub use bounds::Bounds;
-pub use limits::{COST_LIMIT, MOST_ARCS, MOST_NODES};
+pub use limits::{COST_LIMIT, MOST_ARCS, MOST_NODES, check_counts};
 pub use lockout::Lockout;
 pub use network::{Arc, Network};
 pub use ring::TagRing;

@@ -96,9 +96,7 @@ impl<N: Network> Network for Lockout<N> {
     }
 
     fn rebound(&mut self, a: usize, b: Bounds) -> Result<(), Stop> {
-        if self.below.arc(a).is_none() {
-            return Err(Stop::Absent(a));
-        }
+        self.below.arc(a).ok_or(Stop::Absent(a))?;
         if self.is_out(a) {
             return Err(Stop::Held(a));
         }
@@ -113,9 +111,7 @@ impl<N: Network> Network for Lockout<N> {
         if !self.is_number(layer) {
             return self.below.take_out(layer, a);
         }
-        if a == 0 || a > self.below.arcs() {
-            return Err(Stop::Absent(a));
-        }
+        self.below.arc(a).ok_or(Stop::Absent(a))?;
         if self.is_out(a) {
             return Err(Stop::Held(a));
         }

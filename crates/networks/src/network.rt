@@ -1,9 +1,9 @@
 // What every network owes: one meaning, and answers that are read off it.
 
-ghost use Rattle.std.specs.Prelude.{◌≡◌, ℕ, min, length};
+ghost use Rattle.std.specs.Prelude.{◌≡◌, ℕ, false, min, length};
 ghost use Rattle.networks.specs.Limits.{most_counted};
 ghost use Rattle.networks.specs.Nets.{Net, arc_at, rebound_stop, rebounded, recost_stop, recosted, take_out_stop, taken, hand_back_stop, handed_back};
-ghost use Rattle.networks.specs.Answers.{answer, said, tagged, returned, answer_back};
+ghost use Rattle.networks.specs.Answers.{answer, said, refusal, tagged, returned, answer_back};
 
 use crate::{Bounds, Stop, Tag};
 use costs::CostKind;
@@ -19,6 +19,23 @@ pub struct Arc<C> {
     pub cost: C,
     pub held: bool,
     pub fixed: bool,
+}
+
+impl<C> Arc<C> {
+    // An arc that is neither held nor fixed.
+    pub fn free(from: usize, to: usize, lo: i32, hi: i32, cost: C) -> Arc<C>
+        ensures { result ≡ record { from = from; to = to; lo = lo; hi = hi; cost = cost; held = false; fixed = false } }
+    {
+        Arc {
+            from,
+            to,
+            lo,
+            hi,
+            cost,
+            held: false,
+            fixed: false,
+        }
+    }
 }
 
 pub trait Network {
@@ -44,12 +61,12 @@ pub trait Network {
 
     // Replaces the bounds of one arc, beneath lock-outs too.
     fn rebound(&mut self, a: usize, b: Bounds) -> Result<(), Stop>
-        ensures answers { said result ≡ answer (rebound_stop (meaning self.old) a) tt }
+        ensures answers { refusal result ≡ rebound_stop (meaning self.old) a }
         ensures leaves { meaning self.new ≡ rebounded (meaning self.old) a b.lo b.hi };
 
     // Replaces the cost of one arc.
     fn recost(&mut self, a: usize, c: Self::Cost) -> Result<(), Stop>
-        ensures answers { said result ≡ answer (recost_stop Self.Cost.CostKind.kind.size (meaning self.old) a c) tt }
+        ensures answers { refusal result ≡ recost_stop Self.Cost.CostKind.kind.size (meaning self.old) a c }
         ensures leaves { meaning self.new ≡ recosted Self.Cost.CostKind.kind.size (meaning self.old) a c };
 
     // Takes an arc out at one lock-out.

@@ -1,9 +1,9 @@
 // A ring of tags, for callers that work through lists of calls: it takes tags in, and gives one out again by
 // the number of its arc. It must be empty before it is let go.
 
-ghost use Rattle.std.specs.Prelude.{◌≡◌, ℕ, true, replicate, if◌then◌else◌, Some, None};
+ghost use Rattle.std.specs.Prelude.{◌≡◌, ℕ, ◌<◌, true, replicate, slice_set, if◌then◌else◌, Some, None};
 ghost use Rattle.std.specs.Option.{option_map};
-ghost use Rattle.networks.specs.Answers.{answer, said, unless};
+ghost use Rattle.networks.specs.Answers.{refusal, unless};
 ghost use Rattle.networks.specs.Nets.{has, take_out_stop, taken, hand_back_stop, handed_back};
 ghost use Rattle.networks.specs.Rings.{free_of_tags, keeps, put_in, put_in_answer, given_out, given_out_answer, with_tag, without_tag, closed};
 
@@ -29,6 +29,15 @@ fn all_free(places: &[usize]) -> bool
     ensures { result ≡ free_of_tags places.now }
 {
     places.iter().all(|place| *place == 0)
+}
+
+// Empty.
+impl Default for TagRing {
+    ghost is_default = { λ r. r ≡ record { places = replicate 64 0 } };
+
+    fn default() -> TagRing {
+        TagRing::new()
+    }
 }
 
 impl TagRing {
@@ -87,19 +96,31 @@ impl TagRing {
         layer: usize,
         a: usize,
     ) -> Option<Result<(), Stop>>
-        ensures answers { option_map said result ≡ (if has 0 self.old.places then Some (answer (take_out_stop (N.meaning net.old) layer a) tt) else None) }
+        ensures answers { option_map refusal result ≡ (if has 0 self.old.places then Some (take_out_stop (N.meaning net.old) layer a) else None) }
         ensures network { N.meaning net.new ≡ (if has 0 self.old.places then taken (N.meaning net.old) layer a else N.meaning net.old) }
         ensures ring { self.new.places ≡ (if has 0 self.old.places then unless (take_out_stop (N.meaning net.old) layer a) self.old.places (with_tag self.old.places a) else self.old.places) }
     {
         let room = line_of(&self.places, 0)?;
-        match net.take_out(layer, a) {
-            Err(stop) => Some(Err(stop)),
-            Ok(tag) => {
-                tag.spend();
-                self.places[room] = a;
-                Some(Ok(()))
-            }
-        }
+        Some(self.take_out_into(room, net, layer, a))
+    }
+
+    // The same, where the tag goes into that place.
+    fn take_out_into<N: Network>(
+        &mut self,
+        room: usize,
+        net: &mut N,
+        layer: usize,
+        a: usize,
+    ) -> Result<(), Stop>
+        requires { room < 64 }
+        ensures answers { refusal result ≡ take_out_stop (N.meaning net.old) layer a }
+        ensures network { N.meaning net.new ≡ taken (N.meaning net.old) layer a }
+        ensures ring { self.new.places ≡ unless (take_out_stop (N.meaning net.old) layer a) self.old.places (slice_set self.old.places room a) }
+    {
+        let tag = net.take_out(layer, a)?;
+        tag.spend();
+        self.places[room] = a;
+        Ok(())
     }
 
     // Hands an arc back at a lock-out with a tag that is kept; where none names it, the network is not asked.
@@ -109,20 +130,32 @@ impl TagRing {
         layer: usize,
         a: usize,
     ) -> Option<Result<(), Stop>>
-        ensures answers { option_map said result ≡ (if keeps self.old.places a then Some (answer (hand_back_stop (N.meaning net.old) layer a) tt) else None) }
+        ensures answers { option_map refusal result ≡ (if keeps self.old.places a then Some (hand_back_stop (N.meaning net.old) layer a) else None) }
         ensures network { N.meaning net.new ≡ (if keeps self.old.places a then handed_back (N.meaning net.old) layer a else N.meaning net.old) }
         ensures ring { self.new.places ≡ (if keeps self.old.places a then unless (hand_back_stop (N.meaning net.old) layer a) self.old.places (without_tag self.old.places a) else self.old.places) }
     {
         let at = arc_line(&self.places, a)?;
-        match net.hand_back(layer, Tag::new(a)) {
-            Err((stop, tag)) => {
-                tag.spend();
-                Some(Err(stop))
-            }
-            Ok(()) => {
-                self.places[at] = 0;
-                Some(Ok(()))
-            }
-        }
+        Some(self.hand_back_from(at, net, layer, a))
+    }
+
+    // The same, where the tag is in that place.
+    fn hand_back_from<N: Network>(
+        &mut self,
+        at: usize,
+        net: &mut N,
+        layer: usize,
+        a: usize,
+    ) -> Result<(), Stop>
+        requires { at < 64 }
+        ensures answers { refusal result ≡ hand_back_stop (N.meaning net.old) layer a }
+        ensures network { N.meaning net.new ≡ handed_back (N.meaning net.old) layer a }
+        ensures ring { self.new.places ≡ unless (hand_back_stop (N.meaning net.old) layer a) self.old.places (slice_set self.old.places at 0) }
+    {
+        net.hand_back(layer, Tag::new(a)).map_err(|(stop, tag)| {
+            tag.spend();
+            stop
+        })?;
+        self.places[at] = 0;
+        Ok(())
     }
 }

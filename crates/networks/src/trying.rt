@@ -2,18 +2,15 @@
 
 ghost use Rattle.std.specs.Prelude.{◌≡◌, ℕ};
 ghost use Rattle.networks.specs.Nets.{take_out_stop};
-ghost use Rattle.networks.specs.Answers.{answer, said};
+ghost use Rattle.networks.specs.Answers.{refusal};
 
 use crate::{Network, Stop};
 
 // Whether an arc can be taken out at a lock-out now. The hand-back is never refused.
 pub fn try_out<N: Network>(net: &mut N, layer: usize, a: usize) -> Result<(), Stop>
-    ensures answers { said result ≡ answer (take_out_stop (N.meaning net.old) layer a) tt }
+    ensures answers { refusal result ≡ take_out_stop (N.meaning net.old) layer a }
     ensures same { N.meaning net.new ≡ N.meaning net.old }
 {
     let tag = net.take_out(layer, a)?;
-    match net.hand_back(layer, tag) {
-        Ok(()) => Ok(()),
-        Err((stop, _kept)) => Err(stop),
-    }
+    net.hand_back(layer, tag).map_err(|(stop, _kept)| stop)
 }
