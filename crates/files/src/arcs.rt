@@ -34,11 +34,5 @@ pub fn read_arc<C: FileCost>(cursor: &mut Cursor, header: Header) -> Result<Row<
     cursor.expect(b" ")?;
     let cost = read_cost(cursor)?;
     cursor.finish()?;
-    Ok(Row {
-        from,
-        to,
-        lo: bounds.lo(),
-        hi: bounds.hi(),
-        cost,
-    })
+    Ok(Row::new(from, to, bounds.lo(), bounds.hi(), cost))
 }
