@@ -25,7 +25,7 @@ fn print_cut(rt: &HostRuntime, marks: &[u8]) -> io::Result<()> {
     Ok(())
 }
 
-pub fn print_answer<C: Display>(
+pub fn print_answer<C: Display + Drop>(
     rt: &HostRuntime,
     settled: Result<Answer<C>, ReadStop>,
     flow: &[i32],
