@@ -16,6 +16,8 @@ ghost use Rattle.costs.specs.Models.{plain_kind, two_tier_kind, joined};
 ghost use Rattle.costs.specs.PlainLaws.{plain_laws};
 ghost use Rattle.costs.specs.TwoTierLaws.{two_tier_laws};
 
+mod printing;
+
 // The largest size that an operation answers.
 pub const SIZE_LIMIT: i64 = 4_000_000_000_000_000;
 

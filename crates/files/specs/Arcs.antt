@@ -1,22 +1,10 @@
 -- The line of an arc.
-use Rattle.std.specs.Prelude.{ℕ, cond, ℤ, pos, negsuc, Ok, codes, nat_lt}
+use Rattle.std.specs.Prelude.{ℕ, Ok, codes}
 use Rattle.makes.specs.declared.table.Row.{Row}
 use Rattle.files.specs.Kinds.{Tiers}
+use Rattle.files.specs.Costs.{cost_in}
 use Rattle.lines.specs.Readings.{Reading, Outcome, then}
-use Rattle.lines.specs.Lines.{expects, starts, finishes, within_in, count_in, bounds_in}
-
--- a number of a cost has a size of at most 1,000,000
-abbrev pub tier_in : Reading → Outcome ℤ
-tier_in r = within_in (negsuc 999999) (pos 1000000) r
-
--- the second number of a cost, or 0 where it has one
-abbrev pub second_in : ℕ → Reading → Outcome ℤ
-second_in tiers r = cond (nat_lt tiers 2) (Ok (pos 0, r)) (then (expects (codes " ") r) (λ _ s. tier_in s))
-
--- the cost of its numbers, in brackets after its name
-abbrev pub cost_in : {C : Type 0} → Tiers C → Reading → Outcome C
-cost_in t r = then (starts (codes "cost") r) (λ _ s. then (tier_in s) (λ first u. then (second_in t.count u) (λ second v.
-    then (expects (codes ")") v) (λ _ w. Ok (t.cost first second, w)))))
+use Rattle.lines.specs.Lines.{expects, starts, finishes, count_in, bounds_in}
 
 -- the ends are from 1 to the count of nodes
 abbrev pub ends_in : ℕ → Reading → Outcome (ℕ × ℕ)

@@ -1,5 +1,5 @@
 -- A network file: its first line, and the lines of its arcs.
-use Rattle.std.specs.Prelude.{ℕ, zero, suc, ◌≤◌, cond, List, [], ◌∷◌, ◌++◌, length, drop, Ok, Err, codes, Result, ◌==◌, nat_le}
+use Rattle.std.specs.Prelude.{ℕ, zero, suc, cond, List, [], ◌∷◌, ◌++◌, length, drop, Ok, Err, codes, Result, ◌==◌, nat_le}
 use Rattle.networks.specs.Limits.{most_nodes, most_arcs}
 use Rattle.networks.specs.declared.stops.Stop.TheVariants.{Lengths}
 use Rattle.makes.specs.declared.table.Row.{Row}
@@ -7,7 +7,7 @@ use Rattle.files.specs.declared.faults.FileFault.{FileFault}
 use Rattle.files.specs.declared.faults.FileFault.TheVariants.{Line, After, Long}
 use Rattle.files.specs.declared.faults.ReadStop.{ReadStop}
 use Rattle.files.specs.declared.faults.ReadStop.TheVariants.{Fault, Stop}
-use Rattle.files.specs.declared.tables.Header.{Header}
+use Rattle.files.specs.declared.header.Header.{Header}
 use Rattle.files.specs.Kinds.{Tiers}
 use Rattle.files.specs.Arcs.{arc_in}
 use Rattle.lines.specs.Readings.{Reading, Outcome, start_of, then}
@@ -17,20 +17,25 @@ use Rattle.lines.specs.Lines.{expects, starts, finishes, count_in}
 abbrev pub most_bytes : ℕ
 most_bytes = 65536
 
+-- the counts of a first line
+pub record Counts : Type 0 where
+  pub nodes : ℕ
+  pub arcs : ℕ
+  pub tiers : ℕ
+
+abbrev pub counts : Header → Counts
+counts h = record { nodes = h.nodes; arcs = h.arcs; tiers = h.tiers }
+
+abbrev pub shown_header : {E : Type 0} → Result Header E → Result Counts E
+shown_header (Ok h) = Ok (counts h)
+shown_header (Err e) = Err e
+
 -- the counts of the first line, with tiers from the least to the most
-abbrev pub header_in : ℕ → ℕ → Reading → Outcome Header
+abbrev pub header_in : ℕ → ℕ → Reading → Outcome Counts
 header_in least most r = then (starts (codes "net") r) (λ _ s. then (count_in (codes "nodes") 1 most_nodes s) (λ nodes u.
     then (expects (codes " ") u) (λ _ v. then (count_in (codes "arcs") 0 most_arcs v) (λ arcs w.
     then (expects (codes " ") w) (λ _ x. then (count_in (codes "tiers") least most x) (λ tiers y.
     then (finishes y) (λ _ z. Ok (record { nodes = nodes; arcs = arcs; tiers = tiers }, z))))))))
-
--- the counts are in their ranges
-pub record Fit (h : Header) : Type 0 where
-  pub some_nodes : 1 ≤ h.nodes
-  pub few_nodes : h.nodes ≤ most_nodes
-  pub few_arcs : h.arcs ≤ most_arcs
-  pub some_tiers : 1 ≤ h.tiers
-  pub few_tiers : h.tiers ≤ 2
 
 -- a line fault is a fault of the file
 abbrev pub in_file : {A : Type 0} → Outcome A → Result A FileFault
@@ -38,7 +43,7 @@ in_file (Ok m) = Ok m.0
 in_file (Err e) = Err (Line e.0)
 
 -- the counts of a file, with tiers 1 or 2; too many bytes are told first
-abbrev pub counts_of : List ℕ → Result Header FileFault
+abbrev pub counts_of : List ℕ → Result Counts FileFault
 counts_of xs = cond (nat_le (length xs) most_bytes) (in_file (header_in 1 2 (start_of xs))) (Err Long)
 
 -- the rows of so many lines
@@ -65,30 +70,30 @@ kept (Ok m) = cond (length m.1.rest == 0) (Ok m.0) (Err (After m.1.spot.line))
 kept (Err e) = Err (Line e.0)
 
 -- the rows of all lines after the first
-abbrev pub body_in : {C : Type 0} → Tiers C → Header → Reading → Result (List (Row C)) FileFault
+abbrev pub body_in : {C : Type 0} → Tiers C → Counts → Reading → Result (List (Row C)) FileFault
 body_in t h r = kept (rows_in t h.nodes h.arcs r)
 
 abbrev pub in_read : {A : Type 0} → Result A FileFault → Result A ReadStop
 in_read (Ok x) = Ok x
 in_read (Err e) = Err (Fault e)
 
-abbrev pub with_header : {C : Type 0} → Header → Result (List (Row C)) ReadStop → Result (Header × List (Row C)) ReadStop
-with_header h (Ok rows) = Ok (h, rows)
-with_header h (Err e) = Err e
+abbrev pub with_counts : {C : Type 0} → Counts → Result (List (Row C)) ReadStop → Result (Counts × List (Row C)) ReadStop
+with_counts h (Ok rows) = Ok (h, rows)
+with_counts h (Err e) = Err e
 
 -- the counts and the rows of a file, with room for so many rows
-abbrev pub roomed : {C : Type 0} → Tiers C → ℕ → Outcome Header → Result (Header × List (Row C)) ReadStop
-roomed t room (Ok m) = cond (nat_le m.0.arcs room) (with_header m.0 (in_read (body_in t m.0 m.1))) (Err (Stop Lengths))
+abbrev pub roomed : {C : Type 0} → Tiers C → ℕ → Outcome Counts → Result (Counts × List (Row C)) ReadStop
+roomed t room (Ok m) = cond (nat_le m.0.arcs room) (with_counts m.0 (in_read (body_in t m.0 m.1))) (Err (Stop Lengths))
 roomed t room (Err e) = Err (Fault (Line e.0))
 
-abbrev pub table_in : {C : Type 0} → Tiers C → ℕ → List ℕ → Result (Header × List (Row C)) ReadStop
+abbrev pub table_in : {C : Type 0} → Tiers C → ℕ → List ℕ → Result (Counts × List (Row C)) ReadStop
 table_in t room xs = roomed t room (header_in t.count t.count (start_of xs))
 
-abbrev pub header_of : {C : Type 0} → Result (Header × List (Row C)) ReadStop → Result Header ReadStop
+abbrev pub header_of : {C : Type 0} → Result (Counts × List (Row C)) ReadStop → Result Counts ReadStop
 header_of (Ok x) = Ok x.0
 header_of (Err e) = Err e
 
 -- the lent rows after the call: the rows that were read, and those past them as they were; or all as they were
-abbrev pub rows_after : {C : Type 0} → List (Row C) → Result (Header × List (Row C)) ReadStop → List (Row C)
+abbrev pub rows_after : {C : Type 0} → List (Row C) → Result (Counts × List (Row C)) ReadStop → List (Row C)
 rows_after old (Ok x) = x.1 ++ drop (length x.1) old
 rows_after old (Err e) = old

@@ -1,7 +1,7 @@
 // Faults of a network file, and why a table is not read.
 
 ghost use Rattle.std.specs.Prelude.{◌≡◌, ℕ, Some};
-ghost use Rattle.files.specs.Faults.{told, fault_text, stop_in, refusal_text};
+ghost use Rattle.files.specs.Faults.{cause_number, told, fault_text, stop_in, refusal_text};
 ghost use Rattle.files.specs.declared.faults.FileFault.TheVariants.{Line};
 ghost use Rattle.files.specs.declared.faults.ReadStop.TheVariants.{Fault, Stop as StopRead};
 
@@ -26,44 +26,48 @@ impl From<LineFault> for FileFault {
     }
 }
 
+// The number of a cause that stands in a line.
+fn number(cause: Cause) -> u8
+    ensures { result ≡ cause_number cause }
+{
+    match cause {
+        Cause::Byte => 1,
+        Cause::Number => 2,
+        Cause::NotDue => 3,
+        Cause::End => 4,
+        Cause::Range => 6,
+        Cause::Bounds(_) => 7,
+    }
+}
+
 impl FileFault {
-    // The line, from 1.
+    // The line, the byte in it, both from 1, and the number of the cause.
+    pub fn told(self) -> (usize, usize, u8)
+        ensures { result ≡ told self }
+    {
+        match self {
+            FileFault::Line(LineFault { spot, cause }) => (spot.line, spot.place, number(cause)),
+            FileFault::After(line) => (line, 1, 5),
+            FileFault::Long => (1, 1, 8),
+        }
+    }
+
     pub fn line(self) -> usize
         ensures { result ≡ (told self).0 }
     {
-        match self {
-            FileFault::Line(fault) => fault.spot.line,
-            FileFault::After(line) => line,
-            FileFault::Long => 1,
-        }
+        self.told().0
     }
 
-    // The byte in the line, from 1.
     pub fn place(self) -> usize
         ensures { result ≡ (told self).1 }
     {
-        match self {
-            FileFault::Line(fault) => fault.spot.place,
-            FileFault::After(_) | FileFault::Long => 1,
-        }
+        self.told().1
     }
 
-    // The number of the cause.
     pub fn cause(self) -> u8
         ensures { result ≡ (told self).2 }
     {
-        match self {
-            FileFault::Line(fault) => match fault.cause {
-                Cause::Byte => 1,
-                Cause::Number => 2,
-                Cause::NotDue => 3,
-                Cause::End => 4,
-                Cause::Range => 6,
-                Cause::Bounds(_) => 7,
-            },
-            FileFault::After(_) => 5,
-            FileFault::Long => 8,
-        }
+        self.told().2
     }
 
     // The stop of bounds that cannot be made.
@@ -87,9 +91,7 @@ impl fmt::Display for FileFault {
     ghost output = { λ e. Some (fault_text e) };
 
     fn fmt<W: fmt::Write>(&self, f: &mut fmt::Formatter<W>) -> fmt::Result {
-        let line = self.line();
-        let place = self.place();
-        let cause = self.cause();
+        let (line, place, cause) = self.told();
         write!(f, "{line} {place} {cause}")
     }
 }

@@ -1,10 +1,15 @@
 // Cost kinds that files can hold: each cost is written as its numbers.
 
 ghost use Rattle.std.specs.Prelude.{◌≡◌, ℕ, ◌≤◌, ℤ};
+ghost use Rattle.lines.specs.Readings.{ended};
 ghost use Rattle.files.specs.Kinds.{Tiers, TierLaws, plain_tiers, two_tiers};
+ghost use Rattle.files.specs.Costs.{tier_in, numbers_in};
 ghost use Rattle.files.specs.Written.{plain_written, two_tier_written};
 
 use costs::{CostKind, Plain, TwoTier};
+use lines::Cursor;
+use networks::COST_LIMIT;
+use tokens::LineFault;
 
 pub trait FileCost: CostKind {
     // The numbers of a cost.
@@ -25,7 +30,19 @@ pub trait FileCost: CostKind {
     fn second(self) -> i64
         ensures { result ≡ numbers.second self };
 
+    // The numbers of a cost that are next.
+    fn read(cursor: &mut Cursor) -> Result<Self, LineFault>
+        ensures { ended result cursor.new ≡ numbers_in numbers cursor.old };
+
     ghost written: { TierLaws numbers };
+}
+
+// A number of a cost.
+fn tier(cursor: &mut Cursor) -> Result<i64, LineFault>
+    ensures { ended result cursor.new ≡ tier_in cursor.old }
+{
+    let most = COST_LIMIT as i32;
+    Ok(i64::from(cursor.within(-most, most)?))
 }
 
 impl FileCost for Plain {
@@ -48,6 +65,11 @@ impl FileCost for Plain {
     fn second(self) -> i64 {
         0
     }
+
+    fn read(cursor: &mut Cursor) -> Result<Plain, LineFault> {
+        let units = tier(cursor)?;
+        Ok(Plain { units })
+    }
 }
 
 impl FileCost for TwoTier {
@@ -69,5 +91,12 @@ impl FileCost for TwoTier {
 
     fn second(self) -> i64 {
         self.second
+    }
+
+    fn read(cursor: &mut Cursor) -> Result<TwoTier, LineFault> {
+        let first = tier(cursor)?;
+        cursor.expect(b" ")?;
+        let second = tier(cursor)?;
+        Ok(Self::of_tiers(first, second))
     }
 }

@@ -12,9 +12,11 @@
 
 mod arcs;
 mod faults;
+mod header;
 mod kinds;
 mod tables;
 
 pub use faults::{FileFault, ReadStop};
+pub use header::Header;
 pub use kinds::FileCost;
-pub use tables::{Header, MOST_BYTES, read_header, read_table};
+pub use tables::{MOST_BYTES, read_header, read_table};

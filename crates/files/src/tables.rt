@@ -2,10 +2,11 @@
 
 ghost use Rattle.std.specs.Prelude.{◌≡◌, ℕ, ◌≤◌, length, IfOk};
 ghost use Rattle.lines.specs.Readings.{ended};
-ghost use Rattle.files.specs.Tables.{Fit, header_in, in_file, counts_of, rows_in, passed, shown_rows, body_in, granted, table_in, header_of, rows_after};
+ghost use Rattle.files.specs.Tables.{counts, header_in, shown_header, in_file, counts_of, rows_in, passed, shown_rows, body_in, granted, table_in, header_of, rows_after};
 
 use crate::arcs::read_arc;
 use crate::faults::{FileFault, ReadStop};
+use crate::header::Header;
 use crate::kinds::FileCost;
 use lines::Cursor;
 use makes::Row;
@@ -15,20 +16,10 @@ use tokens::LineFault;
 // The most bytes of a file that a program takes.
 pub const MOST_BYTES: usize = 65_536;
 
-// The counts of the first line.
-#[derive(Clone, Copy, Debug, PartialEq, Eq)]
-pub struct Header {
-    pub nodes: usize,
-    pub arcs: usize,
-    // How many numbers a cost has.
-    pub tiers: usize,
-}
-
 // The counts of the first line; the tiers are from the least to the most.
 fn header_line(cursor: &mut Cursor, least: usize, most: usize) -> Result<Header, LineFault>
     requires { (1 ≤ least) × ((least ≤ most) × (most ≤ 2)) }
-    ensures fit { IfOk result Fit }
-    ensures is { ended result cursor.new ≡ header_in least most cursor.old }
+    ensures { ended (shown_header result) cursor.new ≡ header_in least most cursor.old }
 {
     cursor.start(b"net")?;
     let nodes = cursor.count(b"nodes", 1, MOST_NODES)?;
@@ -42,8 +33,7 @@ fn header_line(cursor: &mut Cursor, least: usize, most: usize) -> Result<Header,
 
 // The counts of a file's first line, with tiers 1 or 2; a file with too many bytes is refused first.
 pub fn read_header(text: &[u8]) -> Result<Header, FileFault>
-    ensures fit { IfOk result Fit }
-    ensures is { result ≡ counts_of text.now }
+    ensures { shown_header result ≡ counts_of text.now }
 {
     if text.len() > MOST_BYTES {
         return Err(FileFault::Long);
@@ -53,19 +43,17 @@ pub fn read_header(text: &[u8]) -> Result<Header, FileFault>
 
 // Looks at a line for each arc.
 fn check_rows<C: FileCost>(cursor: &mut Cursor, header: Header) -> Result<(), LineFault>
-    requires { Fit header }
     ensures { ended result cursor.new ≡ passed (rows_in C.FileCost.numbers header.nodes header.arcs cursor.old) }
 {
     for _ in 0..header.arcs {
-        read_arc::<C>(cursor, header.nodes)?;
+        read_arc::<C>(cursor, header)?;
     }
     Ok(())
 }
 
 // Looks at all lines after the first; no byte may stand after the last.
 fn check_body<C: FileCost>(mut cursor: Cursor, header: Header) -> Result<(), FileFault>
-    requires { Fit header }
-    ensures { result ≡ granted (body_in C.FileCost.numbers header cursor.entry) }
+    ensures { result ≡ granted (body_in C.FileCost.numbers (counts header) cursor.entry) }
 {
     check_rows::<C>(&mut cursor, header)?;
     if cursor.left() > 0 {
@@ -77,14 +65,13 @@ fn check_body<C: FileCost>(mut cursor: Cursor, header: Header) -> Result<(), Fil
 // Reads a line into each row.
 fn read_rows<C: FileCost>(
     cursor: &mut Cursor,
-    nodes: usize,
+    header: Header,
     rows: &mut [Row<C>],
 ) -> Result<(), LineFault>
-    requires { (1 ≤ nodes) × (nodes ≤ 256) }
-    ensures { ended (shown_rows rows.new result) cursor.new ≡ rows_in C.FileCost.numbers nodes (length rows.old) cursor.old }
+    ensures { ended (shown_rows rows.new result) cursor.new ≡ rows_in C.FileCost.numbers header.nodes (length rows.old) cursor.old }
 {
     for row in rows.iter_mut() {
-        *row = read_arc(cursor, nodes)?;
+        *row = read_arc(cursor, header)?;
     }
     Ok(())
 }
@@ -92,8 +79,8 @@ fn read_rows<C: FileCost>(
 // Reads a whole file into the first of the lent rows. All lines are looked at before a row is
 // written, so that where it refuses the rows are as they were.
 pub fn read_table<C: FileCost>(text: &[u8], rows: &mut [Row<C>]) -> Result<Header, ReadStop>
-    ensures fit { IfOk result (λ h. Fit h × (h.arcs ≤ length rows.old)) }
-    ensures is { result ≡ header_of (table_in C.FileCost.numbers (length rows.old) text.now) }
+    ensures within { IfOk result (λ h. h.arcs ≤ length rows.old) }
+    ensures is { shown_header result ≡ header_of (table_in C.FileCost.numbers (length rows.old) text.now) }
     ensures leaves { rows.new ≡ rows_after rows.old (table_in C.FileCost.numbers (length rows.old) text.now) }
 {
     let tiers = C::tiers();
@@ -103,6 +90,6 @@ pub fn read_table<C: FileCost>(text: &[u8], rows: &mut [Row<C>]) -> Result<Heade
         return Err(Stop::Lengths.into());
     }
     check_body::<C>(cursor.again(), header)?;
-    read_rows(&mut cursor, header.nodes, &mut rows[..header.arcs])?;
+    read_rows(&mut cursor, header, &mut rows[..header.arcs])?;
     Ok(header)
 }

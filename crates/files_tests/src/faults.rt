@@ -24,8 +24,9 @@ pub(crate) fn fault_of(read: Result<Header, ReadStop>) -> Option<FileFault> {
     }
 }
 
-fn told<C: FileCost>(text: &[u8], rows: &mut [Row<C>]) -> Option<(usize, usize, u8)> {
-    fault_of(read_table(text, rows)).map(|fault| (fault.line(), fault.place(), fault.cause()))
+// A row that stands in none of these files.
+pub(crate) fn blank<C: FileCost>() -> Row<C> {
+    Row::new(7, 7, 7, 7, C::of_tiers(7, 7))
 }
 
 // The fault is the one that is due, and the rows are as they were.
@@ -34,15 +35,9 @@ fn refused<C: FileCost>(
     text: &str,
     due: (usize, usize, u8),
 ) -> Result<(), AllocError> {
-    let blank = Row {
-        from: 7,
-        to: 7,
-        lo: 7,
-        hi: 7,
-        cost: C::of_tiers(7, 7),
-    };
-    let mut rows = vec![in rt.alloc(); blank; 2]?;
-    assert_eq!(rt; told(text.as_bytes(), &mut rows), Some(due), "{}", text);
+    let mut rows = vec![in rt.alloc(); blank::<C>(); 2]?;
+    let fault = fault_of(read_table(text.as_bytes(), &mut rows));
+    assert_eq!(rt; fault.map(|fault| fault.told()), Some(due), "{}", text);
     assert_eq!(rt; (rows[0].from, rows[1].from), (7, 7), "{}", text);
     Ok(())
 }
@@ -231,13 +226,7 @@ fn later_lines(rt: HostRuntime) -> Result<(), Fail> {
 #[test]
 fn stops(rt: HostRuntime) -> Result<(), Fail> {
     let text = "(net (nodes 1) (arcs 1) (tiers 1))\n(arc (from 1) (to 1) (lo 5) (hi 4) (cost 2))\n";
-    let mut rows = [Row {
-        from: 7,
-        to: 7,
-        lo: 7,
-        hi: 7,
-        cost: Plain { units: 7 },
-    }];
+    let mut rows = [blank::<Plain>()];
     let fault = fault_of(read_table(text.as_bytes(), &mut rows)).ok_or("no fault")?;
     assert_eq!(rt; fault.stop(), Some(Stop::Bounds(0)));
     let fault = read_header("(net".as_bytes()).err().ok_or("no fault")?;
@@ -249,8 +238,8 @@ fn stops(rt: HostRuntime) -> Result<(), Fail> {
 #[test]
 fn long_files(rt: HostRuntime) -> Result<(), Fail> {
     let fault = read_header(&[b'#'; 65_537]).err().ok_or("no fault")?;
-    assert_eq!(rt; (fault.line(), fault.place(), fault.cause()), (1, 1, 8));
+    assert_eq!(rt; fault.told(), (1, 1, 8));
     let fault = read_header(&[b'#'; 65_536]).err().ok_or("no fault")?;
-    assert_eq!(rt; (fault.line(), fault.place(), fault.cause()), (1, 1, 1));
+    assert_eq!(rt; fault.told(), (1, 1, 1));
     Ok(())
 }

@@ -1,6 +1,6 @@
 // Files that are read.
 
-use crate::faults::fault_of;
+use crate::faults::{blank, fault_of};
 use costs::{Plain, TwoTier};
 use files::{Header, ReadStop, read_header, read_table};
 use makes::Row;
@@ -19,69 +19,48 @@ const TWO_TIERS: &str = "(net (nodes 256) (arcs 2) (tiers 2))
 (arc (from 256) (to 10) (lo -1000000) (hi 1000000) (cost -1000000 1000000))
 ";
 
-const BLANK: Row<Plain> = Row {
-    from: 7,
-    to: 7,
-    lo: 7,
-    hi: 7,
-    cost: Plain { units: 7 },
-};
-
-fn plain(row: Row<Plain>) -> (usize, usize, i32, i32, i64) {
-    (row.from, row.to, row.lo, row.hi, row.cost.units)
-}
-
-fn two_tier(row: Row<TwoTier>) -> (usize, usize, i32, i32, i64, i64) {
-    (
-        row.from,
-        row.to,
-        row.lo,
-        row.hi,
-        row.cost.first,
-        row.cost.second,
-    )
-}
-
 #[test]
 fn triangle(rt: HostRuntime) {
-    let mut rows = [BLANK; 5];
+    let mut rows = [blank::<Plain>(); 5];
     let header = Header {
         nodes: 3,
         arcs: 4,
         tiers: 1,
     };
     assert_eq!(rt; read_table(TRIANGLE.as_bytes(), &mut rows), Ok(header));
-    assert_eq!(rt; plain(rows[0]), (1, 2, 0, 5, 2));
-    assert_eq!(rt; plain(rows[1]), (2, 3, 0, 5, 1));
-    assert_eq!(rt; plain(rows[2]), (1, 3, 0, 4, 4));
-    assert_eq!(rt; plain(rows[3]), (3, 1, 6, 6, 0));
-    assert_eq!(rt; plain(rows[4]), (7, 7, 7, 7, 7), "past the last row");
+    let read = [
+        Row::new(1, 2, 0, 5, Plain { units: 2 }),
+        Row::new(2, 3, 0, 5, Plain { units: 1 }),
+        Row::new(1, 3, 0, 4, Plain { units: 4 }),
+        Row::new(3, 1, 6, 6, Plain { units: 0 }),
+        // past the last row
+        blank(),
+    ];
+    assert_eq!(rt; rows, read);
 }
 
 #[test]
 fn costs_of_two_tiers(rt: HostRuntime) {
-    let blank = Row {
-        from: 0,
-        to: 0,
-        lo: 0,
-        hi: 0,
-        cost: TwoTier {
-            first: 0,
-            second: 0,
-        },
-    };
-    let mut rows = [blank; 2];
+    let mut rows = [blank(); 2];
     let header = Header {
         nodes: 256,
         arcs: 2,
         tiers: 2,
     };
     assert_eq!(rt; read_table(TWO_TIERS.as_bytes(), &mut rows), Ok(header));
-    assert_eq!(rt; two_tier(rows[0]), (1, 256, 0, 5, 0, -9));
-    assert_eq!(rt;
-        two_tier(rows[1]),
-        (256, 10, -1_000_000, 1_000_000, -1_000_000, 1_000_000)
-    );
+    let low = TwoTier {
+        first: 0,
+        second: -9,
+    };
+    let far = TwoTier {
+        first: -1_000_000,
+        second: 1_000_000,
+    };
+    let read = [
+        Row::new(1, 256, 0, 5, low),
+        Row::new(256, 10, -1_000_000, 1_000_000, far),
+    ];
+    assert_eq!(rt; rows, read);
 }
 
 #[test]
@@ -99,7 +78,7 @@ fn headers(rt: HostRuntime) {
 
 #[test]
 fn no_arcs(rt: HostRuntime) {
-    let mut rows = [BLANK; 1];
+    let mut rows = [blank::<Plain>()];
     let header = Header {
         nodes: 1,
         arcs: 0,
@@ -109,13 +88,13 @@ fn no_arcs(rt: HostRuntime) {
         read_table("(net (nodes 1) (arcs 0) (tiers 1))\n".as_bytes(), &mut rows),
         Ok(header)
     );
-    assert_eq!(rt; plain(rows[0]), (7, 7, 7, 7, 7));
+    assert_eq!(rt; rows, [blank()]);
 }
 
 // Rows are counted after the first line and before the second.
 #[test]
 fn too_few_rows(rt: HostRuntime) -> Result<(), Fail> {
-    let mut rows = [BLANK; 3];
+    let mut rows = [blank::<Plain>(); 3];
     assert_eq!(rt;
         read_table(TRIANGLE.as_bytes(), &mut rows),
         Err(ReadStop::Stop(Stop::Lengths))
@@ -127,6 +106,6 @@ fn too_few_rows(rt: HostRuntime) -> Result<(), Fail> {
     );
     let early = "(net (nodes 1) (arcs 4) (tiers 1))";
     let fault = fault_of(read_table(early.as_bytes(), &mut rows)).ok_or("no fault")?;
-    assert_eq!(rt; (fault.line(), fault.place(), fault.cause()), (1, 35, 4));
+    assert_eq!(rt; fault.told(), (1, 35, 4));
     Ok(())
 }

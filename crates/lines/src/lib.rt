@@ -155,7 +155,7 @@ impl<'a> Cursor<'a> {
         ensures is { ended result self.new ≡ within_in least most self.old }
     {
         let Numeral { value, spot } = self.number()?;
-        if value < least || value > most {
+        if !(least..=most).contains(&value) {
             return Err(LineFault {
                 spot,
                 cause: Cause::Range,
@@ -219,9 +219,8 @@ impl<'a> Cursor<'a> {
 fn pair(lo: Numeral, hi: Numeral) -> Result<Bounds, BoundsFault>
     ensures { shown_pair result ≡ pair_of lo hi }
 {
-    let bounds = Bounds::new(lo.value, hi.value).map_err(|stop| BoundsFault {
+    Bounds::new(lo.value, hi.value).map_err(|stop| BoundsFault {
         spot: hi.spot,
         stop,
-    })?;
-    Ok(bounds)
+    })
 }

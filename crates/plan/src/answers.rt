@@ -1,22 +1,12 @@
 // What the program prints: answers, cuts and refusals, a line each.
 
-use files::{FileCost, ReadStop};
-use networks::Stop;
+use files::ReadStop;
 use search::Answer;
+use std::fmt::Display;
 use std::io;
 
 pub fn print_refusal(rt: &HostRuntime, stop: ReadStop) -> io::Result<()> {
     println!(rt; "(refused {stop})")
-}
-
-fn print_total<C: FileCost>(rt: &HostRuntime, total: C) -> io::Result<()> {
-    let first = total.first();
-    let second = total.second();
-    if C::tiers() == 1 {
-        println!(rt; "(least {first})")
-    } else {
-        println!(rt; "(least {first} {second})")
-    }
 }
 
 fn print_flow(rt: &HostRuntime, flow: &[i32]) -> io::Result<()> {
@@ -35,15 +25,15 @@ fn print_cut(rt: &HostRuntime, marks: &[u8]) -> io::Result<()> {
     Ok(())
 }
 
-pub fn print_answer<C: FileCost>(
+pub fn print_answer<C: Display + Drop>(
     rt: &HostRuntime,
-    settled: Result<Answer<C>, Stop>,
+    settled: Result<Answer<C>, ReadStop>,
     flow: &[i32],
     marks: &[u8],
 ) -> io::Result<()> {
     match settled {
         Ok(Answer::Least { total, .. }) => {
-            print_total(rt, total)?;
+            println!(rt; "(least {total})")?;
             print_flow(rt, flow)
         }
         Ok(Answer::Paused { laps }) => println!(rt; "(paused {laps})"),
@@ -51,6 +41,6 @@ pub fn print_answer<C: FileCost>(
             println!(rt; "(none)")?;
             print_cut(rt, marks)
         }
-        Err(stop) => print_refusal(rt, stop.into()),
+        Err(stop) => print_refusal(rt, stop),
     }
 }

@@ -6,10 +6,11 @@ mod answers;
 
 use answers::{print_answer, print_refusal};
 use costs::{CostKind, Plain, TwoTier};
-use files::{FileCost, MOST_BYTES, read_header, read_table};
+use files::{FileCost, Header, MOST_BYTES, ReadStop, read_header, read_table};
 use makes::{ArcTable, Row};
-use networks::MOST_ARCS;
-use search::settle;
+use networks::MOST_NODES;
+use search::{Answer, settle};
+use std::fmt::Display;
 use std::io;
 use std::io::Read;
 
@@ -22,37 +23,41 @@ fn read_input(rt: &HostRuntime) -> io::Result<Vec<u8>> {
     Ok(text)
 }
 
-// Reads the table, settles it at zero flow with the full budget, and prints the answer.
-fn settle_file<C: FileCost>(rt: &HostRuntime, text: &[u8]) -> io::Result<()> {
+// Reads the table into the lent rows, and settles it at zero flow with the full budget.
+fn settle_file<C: FileCost>(
+    text: &[u8],
+    rows: &mut [Row<C>],
+    flow: &mut [i32],
+    prices: &mut [C],
+    marks: &mut [u8],
+) -> Result<Answer<C>, ReadStop> {
+    let Header { nodes, arcs, .. } = read_table(text, rows)?;
+    let needs = [0; MOST_NODES];
+    let budget = 2_000_000 * arcs as u32;
+    let net = ArcTable::new(nodes, arcs, rows);
+    Ok(settle(&net, flow, &needs[..nodes], prices, marks, budget)?)
+}
+
+// Settles a file with these counts, and prints the answer.
+fn print_plan<C: FileCost + Display>(
+    rt: &HostRuntime,
+    text: &[u8],
+    header: Header,
+) -> io::Result<()> {
     let heap = rt.alloc();
-    let row = Row {
-        from: 0,
-        to: 0,
-        lo: 0,
-        hi: 0,
-        cost: C::zero(),
-    };
-    let mut rows = vec![in heap; row; MOST_ARCS]?;
-    let header = match read_table::<C>(text, &mut rows) {
-        Ok(header) => header,
-        Err(stop) => return print_refusal(rt, stop),
-    };
-    rows.truncate(header.arcs);
+    let mut rows = vec![in heap; Row::new(0, 0, 0, 0, C::zero()); header.arcs]?;
     let mut flow = vec![in heap; 0i32; header.arcs]?;
-    let needs = vec![in heap; 0i32; header.nodes]?;
     let mut prices = vec![in heap; C::zero(); header.nodes]?;
     let mut marks = vec![in heap; 0u8; header.nodes]?;
-    let budget = 2_000_000 * header.arcs as u32;
-    let net = ArcTable::new(header.nodes, header.arcs, &mut rows);
-    let settled = settle(&net, &mut flow, &needs, &mut prices, &mut marks, budget);
+    let settled = settle_file(text, &mut rows, &mut flow, &mut prices, &mut marks);
     print_answer(rt, settled, &flow, &marks)
 }
 
 fn main(rt: HostRuntime) -> io::Result<()> {
     let text = read_input(&rt)?;
     match read_header(&text) {
-        Ok(header) if header.tiers == 2 => settle_file::<TwoTier>(&rt, &text),
-        Ok(_) => settle_file::<Plain>(&rt, &text),
+        Ok(header) if header.tiers == 2 => print_plan::<TwoTier>(&rt, &text, header),
+        Ok(header) => print_plan::<Plain>(&rt, &text, header),
         Err(fault) => print_refusal(&rt, fault.into()),
     }
 }

@@ -7,23 +7,13 @@ use std::io;
 
 const FULL: u32 = 2_048_000_000;
 
-fn row(from: usize, to: usize, lo: i32, hi: i32, units: i64) -> Row<Plain> {
-    Row {
-        from,
-        to,
-        lo,
-        hi,
-        cost: Plain { units },
-    }
-}
-
 // Three nodes; the way back from the third to the first carries this many.
 fn triangle_rows(back: i32) -> [Row<Plain>; 4] {
     [
-        row(1, 2, 0, 5, 2),
-        row(2, 3, 0, 5, 1),
-        row(1, 3, 0, 4, 4),
-        row(3, 1, back, back, 0),
+        Row::new(1, 2, 0, 5, Plain { units: 2 }),
+        Row::new(2, 3, 0, 5, Plain { units: 1 }),
+        Row::new(1, 3, 0, 4, Plain { units: 4 }),
+        Row::new(3, 1, back, back, Plain { units: 0 }),
     ]
 }
 
@@ -45,7 +35,7 @@ pub fn triangle(rt: &HostRuntime) -> io::Result<()> {
 
 pub fn one_node(rt: &HostRuntime) -> io::Result<()> {
     for (name, units) in [("loop at -1", -1), ("loop at 1", 1)] {
-        let mut rows = [row(1, 1, -2, 3, units)];
+        let mut rows = [Row::new(1, 1, -2, 3, Plain { units })];
         let net = ArcTable::new(1, 1, &mut rows);
         try_from(rt, name, &net, 0, &[0], FULL)?;
     }
@@ -62,7 +52,7 @@ pub fn one_node(rt: &HostRuntime) -> io::Result<()> {
 
 pub fn two_nodes(rt: &HostRuntime) -> io::Result<()> {
     for (name, start) in [("opened at 3", 3), ("opened at 6", 6)] {
-        let mut rows = [row(1, 2, 0, 5, 1)];
+        let mut rows = [Row::new(1, 2, 0, 5, Plain { units: 1 })];
         let net = ArcTable::new(2, 1, &mut rows);
         try_from(rt, name, &net, start, &[start, -start], FULL)?;
     }
@@ -83,27 +73,9 @@ pub fn two_tier(rt: &HostRuntime) -> io::Result<()> {
         second: 0,
     };
     let mut rows = [
-        Row {
-            from: 1,
-            to: 2,
-            lo: 0,
-            hi: 5,
-            cost: dear,
-        },
-        Row {
-            from: 1,
-            to: 2,
-            lo: 0,
-            hi: 5,
-            cost: cheap,
-        },
-        Row {
-            from: 2,
-            to: 1,
-            lo: 3,
-            hi: 3,
-            cost: zero,
-        },
+        Row::new(1, 2, 0, 5, dear),
+        Row::new(1, 2, 0, 5, cheap),
+        Row::new(2, 1, 3, 3, zero),
     ];
     try_from(
         rt,
@@ -117,11 +89,19 @@ pub fn two_tier(rt: &HostRuntime) -> io::Result<()> {
 
 // 256 nodes in a ring, each with four arcs to the next: the largest table.
 pub fn ring(rt: &HostRuntime) -> io::Result<()> {
-    let mut rows = [row(1, 1, 0, 0, 0); 1024];
+    let mut rows = [Row::new(1, 1, 0, 0, Plain { units: 0 }); 1024];
     for (i, slot) in rows.iter_mut().enumerate() {
         let from = i / 4 + 1;
         let to = if from == 256 { 1 } else { from + 1 };
-        *slot = row(from, to, 0, 10, (i % 4) as i64 - 2);
+        *slot = Row::new(
+            from,
+            to,
+            0,
+            10,
+            Plain {
+                units: (i % 4) as i64 - 2,
+            },
+        );
     }
     try_from(
         rt,
