@@ -9,7 +9,7 @@ use costs::{CostKind, Plain, TwoTier};
 use files::{FileCost, Header, MOST_BYTES, ReadStop, read_header, read_table};
 use makes::{ArcTable, Row};
 use networks::MOST_NODES;
-use search::{Answer, settle};
+use search::{Answer, FULL_BUDGET, settle};
 use std::fmt::Display;
 use std::io;
 use std::io::Read;
@@ -23,7 +23,7 @@ fn read_input(rt: &HostRuntime) -> io::Result<Vec<u8>> {
     Ok(text)
 }
 
-// Reads the table into the lent rows, and settles it at zero flow with the full budget.
+// Reads the table into the lent rows, and settles it at zero flow, with a budget that no search uses up.
 fn settle_file<C: FileCost>(
     text: &[u8],
     rows: &mut [Row<C>],
@@ -33,9 +33,8 @@ fn settle_file<C: FileCost>(
 ) -> Result<Answer<C>, ReadStop> {
     let Header { nodes, arcs, .. } = read_table(text, rows)?;
     let needs = [0; MOST_NODES];
-    let budget = 2_000_000 * arcs as u32;
     let net = ArcTable::new(nodes, arcs, rows);
-    Ok(settle(&net, flow, &needs[..nodes], prices, marks, budget)?)
+    Ok(settle(&net, flow, &needs[..nodes], prices, marks, FULL_BUDGET)?)
 }
 
 // Settles a file with these counts, and prints the answer.

@@ -3,9 +3,8 @@
 use crate::tables::try_from;
 use costs::{Plain, TwoTier};
 use makes::{ArcTable, Row};
+use search::FULL_BUDGET;
 use std::io;
-
-const FULL: u32 = 2_048_000_000;
 
 // Three nodes; the way back from the third to the first carries this many.
 fn triangle_rows(back: i32) -> [Row<Plain>; 4] {
@@ -19,12 +18,12 @@ fn triangle_rows(back: i32) -> [Row<Plain>; 4] {
 
 pub fn triangle(rt: &HostRuntime) -> io::Result<()> {
     let cases: [(&str, i32, &[i32], u32); 6] = [
-        ("triangle at 6", 6, &[0, 0, 0], FULL),
-        ("triangle at 9", 9, &[0, 0, 0], FULL),
-        ("triangle at 10", 10, &[0, 0, 0], FULL),
+        ("triangle at 6", 6, &[0, 0, 0], FULL_BUDGET),
+        ("triangle at 9", 9, &[0, 0, 0], FULL_BUDGET),
+        ("triangle at 10", 10, &[0, 0, 0], FULL_BUDGET),
         ("triangle, no budget", 6, &[0, 0, 0], 0),
-        ("triangle, a need not met", 6, &[0, 1, 0], FULL),
-        ("triangle, a table too short", 6, &[0, 0], FULL),
+        ("triangle, a need not met", 6, &[0, 1, 0], FULL_BUDGET),
+        ("triangle, a table too short", 6, &[0, 0], FULL_BUDGET),
     ];
     for (name, back, needs, budget) in cases {
         let mut rows = triangle_rows(back);
@@ -37,7 +36,7 @@ pub fn one_node(rt: &HostRuntime) -> io::Result<()> {
     for (name, units) in [("loop at -1", -1), ("loop at 1", 1)] {
         let mut rows = [Row::new(1, 1, -2, 3, Plain { units })];
         let net = ArcTable::new(1, 1, &mut rows);
-        try_from(rt, name, &net, 0, &[0], FULL)?;
+        try_from(rt, name, &net, 0, &[0], FULL_BUDGET)?;
     }
     let mut none: [Row<Plain>; 0] = [];
     try_from(
@@ -46,7 +45,7 @@ pub fn one_node(rt: &HostRuntime) -> io::Result<()> {
         &ArcTable::new(1, 0, &mut none),
         0,
         &[0],
-        FULL,
+        FULL_BUDGET,
     )
 }
 
@@ -54,7 +53,7 @@ pub fn two_nodes(rt: &HostRuntime) -> io::Result<()> {
     for (name, start) in [("opened at 3", 3), ("opened at 6", 6)] {
         let mut rows = [Row::new(1, 2, 0, 5, Plain { units: 1 })];
         let net = ArcTable::new(2, 1, &mut rows);
-        try_from(rt, name, &net, start, &[start, -start], FULL)?;
+        try_from(rt, name, &net, start, &[start, -start], FULL_BUDGET)?;
     }
     Ok(())
 }
@@ -83,7 +82,7 @@ pub fn two_tier(rt: &HostRuntime) -> io::Result<()> {
         &ArcTable::new(2, 3, &mut rows),
         0,
         &[0; 2],
-        FULL,
+        FULL_BUDGET,
     )
 }
 
@@ -109,6 +108,6 @@ pub fn ring(rt: &HostRuntime) -> io::Result<()> {
         &ArcTable::new(256, 1024, &mut rows),
         0,
         &[0; 256],
-        FULL,
+        FULL_BUDGET,
     )
 }
