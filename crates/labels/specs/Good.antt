@@ -1,6 +1,7 @@
 -- Labellings.
 use Rattle.std.specs.Prelude.{◌≡◌, ℕ, ◌+◌, ◌-◌, ◌<◌, ◌≤◌, Bool, true, false, cond, List, [], ◌∷◌, ◌++◌, length, ℤ, pos, Some, None, Option, ◌==◌, nat_lt, slice_index, slice_index_or, slice_set}
 use Rattle.costs.specs.Kinds.{Kind}
+use Rattle.networks.specs.Limits.{most_nodes}
 use Rattle.networks.specs.Nets.{IsAt}
 use Rattle.flows.specs.Laps.{Leads, far}
 use Rattle.networks.specs.declared.network.Arc.{Arc}
@@ -51,8 +52,8 @@ pub record Linked {C : Type 0} (K : Kind C) (arcs : List (Arc C)) (flow : List �
 
 -- places and entries agree
 pub record Whole (N : ℕ) (ls : Labels) : Type 0 where
-  pub places_long : length ls.places ≡ 256
-  pub few : count ls ≤ 256
+  pub places_long : length ls.places ≡ most_nodes
+  pub few : count ls ≤ most_nodes
   pub tally : used ls.places ≡ count ls
   pub nodes : (k : ℕ) → k < count ls → (1 ≤ node_at ls k) × (node_at ls k ≤ N)
   pub placed : (k : ℕ) → k < count ls → place_of ls (node_at ls k) ≡ k + 1
@@ -83,6 +84,6 @@ linked_by a s k = record { node = far a s.along; parent = k; step = s }
 
 -- only the source is labelled
 pub record Begun (source : ℕ) (ls : Labels) : Type 0 where
-  pub whole : (N : ℕ) → source ≤ N → N ≤ 256 → Whole N ls
+  pub whole : (N : ℕ) → source ≤ N → N ≤ most_nodes → Whole N ls
   pub one : count ls ≡ 1
   pub starts : node_at ls 0 ≡ source

@@ -1,6 +1,7 @@
 // The labelling: nodes that a change of flow can reach from the source, each with the step that leads to it.
 
 ghost use Rattle.std.specs.Prelude.{◌≡◌, ℕ, ◌<◌, ◌≤◌, length, nat_lt};
+ghost use Rattle.networks.specs.Limits.{most_nodes};
 ghost use Rattle.networks.specs.Nets.{shown, IsAt};
 ghost use Rattle.flows.specs.Flows.{Ends};
 ghost use Rattle.flows.specs.Laps.{far};
@@ -31,7 +32,7 @@ pub struct Labels {
 impl Labels {
     // A labelling of the source alone.
     pub fn begin(source: usize) -> Labels
-        requires { (1 ≤ source) × (source ≤ 256) }
+        requires { (1 ≤ source) × (source ≤ most_nodes) }
         ensures { Begun source result }
     {
         let mut labels = Labels {
@@ -47,7 +48,7 @@ impl Labels {
 
     // The place of a node among the labelled, counted from 0; none where it is not labelled.
     pub fn place(&self, node: usize) -> Option<usize>
-        requires { (1 ≤ node) × (node ≤ 256) }
+        requires { (1 ≤ node) × (node ≤ most_nodes) }
         ensures { result ≡ place_at self.now node }
     {
         self.places[node - 1].checked_sub(1)
@@ -63,8 +64,8 @@ impl Labels {
 
     // Labels one node more.
     pub fn push(&mut self, entry: Entry)
-        requires room { count self.old < 256 }
-        requires node { (1 ≤ entry.node) × (entry.node ≤ 256) }
+        requires room { count self.old < most_nodes }
+        requires node { (1 ≤ entry.node) × (entry.node ≤ most_nodes) }
         ensures { self.new ≡ pushed self.old entry }
     {
         self.places[entry.node - 1] = self.entries.len() + 1;
@@ -73,8 +74,8 @@ impl Labels {
 
     // Labels what the step over an arc leads to, from the node at a place.
     pub fn link<C: CostKind>(&mut self, arc: Arc<C>, step: Step, parent: usize)
-        requires room { count self.old < 256 }
-        requires node { (1 ≤ far arc step.along) × (far arc step.along ≤ 256) }
+        requires room { count self.old < most_nodes }
+        requires node { (1 ≤ far arc step.along) × (far arc step.along ≤ most_nodes) }
         ensures { self.new ≡ pushed self.old (linked_by arc step parent) }
     {
         self.push(Entry {
@@ -87,7 +88,7 @@ impl Labels {
 
 // The way over the arc from the node to one that is not labelled.
 fn outward<C: CostKind>(arc: Arc<C>, node: usize, labels: &Labels) -> Option<bool>
-    requires { Ends 256 arc }
+    requires { Ends most_nodes arc }
     ensures { result ≡ outward_at arc node labels.now }
 {
     if arc.from == node && labels.place(arc.to).is_none() {

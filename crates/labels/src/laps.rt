@@ -2,7 +2,7 @@
 
 ghost use Rattle.std.specs.Prelude.{◌≡◌, ℕ, ◌<◌, ◌≤◌, length, ℤ, pos, ◌-ℤ◌, ◌≤ℤ◌, if◌then◌else◌, slice_set, unsigned_abs};
 ghost use Rattle.std.specs.List.{AllByRecursion};
-ghost use Rattle.networks.specs.Limits.{flow_limit};
+ghost use Rattle.networks.specs.Limits.{most_nodes, flow_limit};
 ghost use Rattle.networks.specs.Nets.{shown};
 ghost use Rattle.flows.specs.Fits.{Small, Bounded, price_limit};
 ghost use Rattle.flows.specs.Laps.{moved, sent};
@@ -19,7 +19,7 @@ use networks::{Bounds, MOST_NODES, Network};
 // The chosen step, and then the steps from the source to the node at a place.
 fn trace(labels: &Labels, place: usize, chosen: Step) -> ArrayVec<Step, MOST_NODES>
     requires back { Backward labels.now }
-    requires few { count labels.now ≤ 256 }
+    requires few { count labels.now ≤ most_nodes }
     requires place { place < count labels.now }
     ensures { Trail labels.now chosen place result.items }
 {

@@ -2,6 +2,7 @@
 use Rattle.std.specs.Prelude.{◌≡◌, ℕ, suc, ◌+◌, ◌-◌, ◌*◌, ◌<◌, ◌≤◌, Bool, false, cond, not, List, [], ◌∷◌, length, get_or, Some, None, Option, slice_index_or}
 use Rattle.std.specs.List.{AllByRecursion, position}
 use Rattle.std.specs.Option.{unwrap_or}
+use Rattle.networks.specs.Limits.{most_nodes, cost_limit}
 use Rattle.networks.specs.declared.network.Arc.{Arc}
 use Rattle.costs.specs.Kinds.{Kind}
 use Rattle.tidy.specs.declared.picks.Pick.{Pick}
@@ -17,7 +18,7 @@ labelled_at marks n = slice_index_or marks (n - 1) false
 
 -- prices that may be tidied: of a network that fits, as a search for one chain leaves them
 pub record Untidy {C : Type 0} (K : Kind C) (arcs : List (Arc C)) (ps : List C) : Type 0 where
-  pub few : length ps ≤ 256
+  pub few : length ps ≤ most_nodes
   pub fitting : Fitting K (length ps) arcs
   pub moderate : Bounded K found_limit ps
 
@@ -30,7 +31,7 @@ pub record Tidied {C : Type 0} (K : Kind C) (arcs : List (Arc C)) (ps qs : List 
 -- ends are nodes, and no cost is too large
 pub record Sound {C : Type 0} (K : Kind C) (arcs : List (Arc C)) (n : ℕ) : Type 0 where
   pub ends : AllByRecursion (Ends n) arcs
-  pub costs : largest K arcs ≤ 1000000
+  pub costs : largest K arcs ≤ cost_limit
 
 abbrev pub picked : {C : Type 0} → ℕ → C → Pick C
 picked place far = record { place = place; far = far }
