@@ -1,7 +1,7 @@
 -- Which arcs are out at a lock-out after a take-out and after a hand-back.
 use Rattle.std.proofs.Common.{◌≡◌, ℕ, zero, suc, ◌<◌, ◌≤◌, Bool, true, false, cond, ◌||◌, eqb, ltb, ◌⊎◌, List, [], ◌∷◌, length, get_or, set, Some, None, sym, refl, ap, ◌∙◌, subst, inl, inr, ⊎_elim, arith}
 use Rattle.std.proofs.lemmas.List.{length-set, get_or-set_same, get_or-set_other}
-use Rattle.std.proofs.lemmas.Bool.{cond-true, cond-false, eqb-false, eq-eqb, lt-ltb, ltb-true, or_parts, cases_eq}
+use Rattle.std.proofs.lemmas.Bool.{cond-true, cond-false, eqb-false, eq-eqb, lt-ltb, ltb-true, or_parts, cases_eq, true≢false}
 use Rattle.networks.specs.Answers.{Told}
 use Rattle.networks.specs.Nets.{Lock, place, has, out_at, relined, line_stop}
 use Rattle.networks.proofs.Places.{place_at}
@@ -79,9 +79,7 @@ module _ (o : Lock) (a : ℕ) (ok : line_stop a (Some o) ≡ None) where
   nowhere h =
       let no = (free (eqb a 0 || ltb o.over a) (has a o.lines) (has 0 o.lines) (8, a) (9, a) (11, 0) ok).1 in
       let yes = holds_has a o.lines h in
-      let bad : true ≡ false = sym yes ∙ no in
-      let z : ◌≡◌ {A = ℕ} 0 1 = cc in
-      omega arith
+      true≢false (sym yes ∙ no)
 
   room : place 0 o.lines < length o.lines
   room = ltb-true _ _ (free (eqb a 0 || ltb o.over a) (has a o.lines) (has 0 o.lines) (8, a) (9, a) (11, 0) ok).2

@@ -26,17 +26,17 @@ module _ {C : Type 0} (K : Kind C) (laws : Laws K) where
   ways : (p q r s t u : Bool) (along : Bool) → Some along ≡ cond p (Some true) (cond q (Some false) (cond (r && s) (Some true) (cond (t && u) (Some false) None))) →
       ((along ≡ true) × ((p ≡ true) ⊎ ((r ≡ true) × (s ≡ true)))) ⊎ ((along ≡ false) × ((q ≡ true) ⊎ ((t ≡ true) × (u ≡ true))))
   ways true q r s t u true e = inl (refl, inl refl)
-  ways true q r s t u false e = absurd (let z : ◌≡◌ {A = Bool} true false = cc in let w : ◌≡◌ {A = ℕ} 0 1 = ap (λ b. cond b 0 1) z in omega arith)
+  ways true q r s t u false e = absurd cc
   ways false true r s t u false e = inr (refl, inl refl)
-  ways false true r s t u true e = absurd (let z : ◌≡◌ {A = Bool} true false = cc in let w : ◌≡◌ {A = ℕ} 0 1 = ap (λ b. cond b 0 1) z in omega arith)
+  ways false true r s t u true e = absurd cc
   ways false false true true t u true e = inl (refl, inr (refl, refl))
-  ways false false true true t u false e = absurd (let z : ◌≡◌ {A = Bool} true false = cc in let w : ◌≡◌ {A = ℕ} 0 1 = ap (λ b. cond b 0 1) z in omega arith)
+  ways false false true true t u false e = absurd cc
   ways false false true false true true false e = inr (refl, inr (refl, refl))
-  ways false false true false true true true e = absurd (let z : ◌≡◌ {A = Bool} true false = cc in let w : ◌≡◌ {A = ℕ} 0 1 = ap (λ b. cond b 0 1) z in omega arith)
+  ways false false true false true true true e = absurd cc
   ways false false true false true false along e = absurd cc
   ways false false true false false u along e = absurd cc
   ways false false false s true true false e = inr (refl, inr (refl, refl))
-  ways false false false s true true true e = absurd (let z : ◌≡◌ {A = Bool} true false = cc in let w : ◌≡◌ {A = ℕ} 0 1 = ap (λ b. cond b 0 1) z in omega arith)
+  ways false false false s true true true e = absurd cc
   ways false false false s true false along e = absurd cc
   ways false false false s false u along e = absurd cc
 
