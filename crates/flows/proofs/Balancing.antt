@@ -1,5 +1,5 @@
 -- One arc more of an imbalance.
-use Rattle.std.proofs.Common.{◌≡◌, ℕ, suc, ◌+◌, ◌*◌, ◌≤◌, ◌⊎◌, Bool, cond, eqb, List, [], ◌∷◌, length, ℤ, pos, negsuc, ◌+ℤ◌, ◌-ℤ◌, nat_abs, sym, ◌∙◌, ap₂, arith, w32, SFits}
+use Rattle.std.proofs.Common.{◌≡◌, ℕ, suc, ◌+◌, ◌*◌, ◌≤◌, ◌⊎◌, Bool, cond, eqb, List, [], ◌∷◌, length, ℤ, pos, negsuc, ◌+ℤ◌, ◌-ℤ◌, nat_abs, sym, ap, ◌∙◌, ap₂, arith, w32, SFits}
 use Rattle.std.proofs.lemmas.Int.{ints}
 use Rattle.networks.specs.declared.network.Arc.{Arc}
 use Rattle.networks.specs.Limits.{flow_limit}
@@ -26,7 +26,7 @@ one_carries : (b c : Bool) (f x y : ℤ) → nat_abs ((cond b f (pos 0) +ℤ x) 
 one_carries b c f x y = grind (arith, ints)
 
 -- flows within the limits: an imbalance is at most the limit for each flow
-pub balance_small : {C : Type 0} (node : ℕ) (arcs : List (Arc C)) (flow : List ℤ) → Small flow → nat_abs (imbalance arcs flow node) ≤ flow_limit * length flow
+balance_small : {C : Type 0} (node : ℕ) (arcs : List (Arc C)) (flow : List ℤ) → Small flow → nat_abs (imbalance arcs flow node) ≤ flow_limit * length flow
 balance_small node [] fs small = omega arith
 balance_small node (a ∷ rest) [] small = omega arith
 balance_small node (a ∷ rest) (f ∷ fs) small =
@@ -35,6 +35,9 @@ balance_small node (a ∷ rest) (f ∷ fs) small =
     omega (arith, one, more, small 0)
 
 -- such an imbalance of at most 1,024 arcs fits an i32
-pub fits_need : (z : ℤ) → nat_abs z ≤ 1024000000 → SFits w32 z
+fits_need : (z : ℤ) → nat_abs z ≤ 1024000000 → SFits w32 z
 fits_need (pos n) h = record { sfits = omega arith }
 fits_need (negsuc n) h = record { sfits = omega arith }
+
+pub need_fits : {C : Type 0} (node : ℕ) (arcs : List (Arc C)) (flow : List ℤ) (z : ℤ) → z ≡ imbalance arcs flow node → length flow ≤ 1024 → Small flow → SFits w32 z
+need_fits node arcs flow z e few small = fits_need z (omega (arith, balance_small node arcs flow small, few, ap nat_abs e))

@@ -1,6 +1,6 @@
 // Which stop comes first: the checks that calls on a plan share.
 
-ghost use Rattle.std.specs.Prelude.{◌≡◌, ℕ, ◌≤◌, ◌&&◌, length, ℤ, None, int_le, nat_le};
+ghost use Rattle.std.specs.Prelude.{◌≡◌, ℕ, ◌≤◌, ◌&&◌, length, ℤ, int_le, nat_le};
 ghost use Rattle.networks.specs.Limits.{most_arcs, in_limits as in_limits_of};
 ghost use Rattle.networks.specs.Answers.{refusal};
 ghost use Rattle.networks.specs.Nets.{shown};
