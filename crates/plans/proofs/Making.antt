@@ -5,7 +5,7 @@ use Rattle.std.proofs.lemmas.List.{length-set, drop-set-lt, drop-drop, get_or_de
 use Rattle.costs.specs.Kinds.{Kind, Laws}
 use Rattle.networks.specs.declared.stops.Stop.{Stop}
 use Rattle.networks.specs.Answers.{Told, refusal, unless}
-use Rattle.networks.specs.Nets.{Net}
+use Rattle.networks.specs.Nets.{Net, IsAt}
 use Rattle.flows.specs.Settles.{Tables}
 use Rattle.runs.specs.declared.calls.Call.{Call}
 use Rattle.runs.specs.declared.calls.Outcome.{Outcome}
@@ -64,6 +64,7 @@ module _ {C : Type 0} (K : Kind C) (n m due : Net C) (t : Tables C) (places afte
 
 -- the first i calls of a list have been made
 pub record Done {C : Type 0} (K : Kind C) (found : State C) (places : List ℕ) (offers : List ℤ) (calls : List (Call C)) (outs : List (Outcome C)) (i : ℕ) (now : State C) (after : List ℕ) (outcomes : List (Outcome C)) : Type 0 where
+  pub among : i ≤ length calls
   pub noted : i ≤ length outcomes
   pub steps : Steps K found (events offers (take i calls) (take i outcomes)) now
   pub ring : after ≡ ring_after places (events offers (take i calls) (take i outcomes))
@@ -76,12 +77,14 @@ ring_more places (x ∷ es) e = ring_more (cond (is_granted x.outcome) (retagged
 
 -- one call more
 pub done_more : {C : Type 0} (K : Kind C) (laws : Laws K) (found now next : State C) (places after later : List ℕ) (offers : List ℤ) (calls : List (Call C)) (outs outcomes : List (Outcome C)) (i : ℕ) (c : Call C) (o : Outcome C) → Done K found places offers calls outs i now after outcomes →
-    i < length calls → i < length outcomes → c ≡ get_or calls i c → Makes K now after (asked offers c) (Some o) next later → Done K found places offers calls outs (i + 1) next later (set outcomes i o)
-done_more K laws found now next places after later offers calls outs outcomes i c o d l h at (keeps, ring-is) =
+    IsAt calls i c → i < length outs → Makes K now after (asked offers c) (Some o) next later → Done K found places offers calls outs (i + 1) next later (set outcomes i o)
+done_more K laws found now next places after later offers calls outs outcomes i c o d (l, at) room (keeps, ring-is) =
     let e = event (asked offers c) (came o) in
+    let h : i < length outcomes = omega (arith, room, d.long) in
     let more = events_more offers calls outcomes i c o l h at in
     let long = length-set outcomes i o in
     record {
+      among = omega arith;
       noted = omega (arith, long);
       steps = subst (λ es. Steps K found es next) (sym more) (steps_more K laws found now next (events offers (take i calls) (take i outcomes)) e d.steps keeps.step);
       ring = ring-is ∙ ap (λ xs. ring_after xs (e ∷ [])) d.ring ∙ sym (ring_more places (events offers (take i calls) (take i outcomes)) e) ∙ ap (ring_after places) (sym more);
@@ -93,20 +96,20 @@ done_more K laws found now next places after later offers calls outs outcomes i 
     rest_more xs ys i e = sym (drop-drop 1 i xs) ∙ ap (drop 1) e ∙ drop-drop 1 i ys
 
 pub done_start : {C : Type 0} (K : Kind C) (found : State C) (places : List ℕ) (offers : List ℤ) (calls : List (Call C)) (outs : List (Outcome C)) → Done K found places offers calls outs 0 found places outs
-done_start K found places offers calls outs = record { noted = omega arith; steps = refl; ring = refl; rest = refl; long = refl }
+done_start K found places offers calls outs = record { among = omega arith; noted = omega arith; steps = refl; ring = refl; rest = refl; long = refl }
 
 at_same : {X : Type 0} (xs : List X) (i : ℕ) (a b : X) → i < length xs → a ≡ get_or xs i a → b ≡ get_or xs i b → a ≡ b
 at_same xs i a b h p q = p ∙ get_or_default xs i a b h ∙ sym q
 
 module _ {C : Type 0} (K : Kind C) (found now : State C) (places after : List ℕ) (offers : List ℤ) (calls : List (Call C)) (outs outcomes : List (Outcome C)) (i : ℕ) (d : Done K found places offers calls outs i now after outcomes) where
-  -- the outcomes have no room for the next
-  pub done_full : i < length calls → length outcomes ≤ i → MakesAll K found places offers calls outs i now after outcomes
-  done_full l h = record { among = omega arith; noted = d.noted; steps = d.steps; ring = d.ring; rest = d.rest; early = λ c at. inl (omega (arith, d.long)) }
+  -- no call is left
+  pub done_whole : length calls ≤ i → MakesAll K found places offers calls outs i now after outcomes
+  done_whole l = record { among = d.among; noted = d.noted; steps = d.steps; ring = d.ring; rest = d.rest; early = λ c there. absurd (omega (arith, there.0)) }
 
   -- the tags do not suffice for the next
-  pub done_short : (next : State C) (later : List ℕ) (c : Call C) → i < length calls → c ≡ get_or calls i c → Makes K now after (asked offers c) None next later → MakesAll K found places offers calls outs i next later outcomes
-  done_short next later c l at (short, same, ring-same) = record {
-    among = omega arith;
+  pub done_short : (next : State C) (later : List ℕ) (c : Call C) → IsAt calls i c → Makes K now after (asked offers c) None next later → MakesAll K found places offers calls outs i next later outcomes
+  done_short next later c (l, at) (short, same, ring-same) = record {
+    among = d.among;
     noted = d.noted;
     steps = subst (λ z. Steps K found (events offers (take i calls) (take i outcomes)) z) (sym same) d.steps;
     ring = ring-same ∙ d.ring;
@@ -114,7 +117,7 @@ module _ {C : Type 0} (K : Kind C) (found now : State C) (places after : List �
     early = λ e there. inr (subst (λ x. ShortOfTags x (asked offers e)) (sym ring-same) (subst (λ x. ShortOfTags after (asked offers x)) (at_same calls i c e l at there.1) short));
   }
 
-  -- all are made
-  pub done_whole : length calls ≡ i → MakesAll K found places offers calls outs (length calls) now after outcomes
-  done_whole e = subst (λ k. MakesAll K found places offers calls outs k now after outcomes) (sym e)
-      (record { among = omega arith; noted = d.noted; steps = d.steps; ring = d.ring; rest = d.rest; early = λ c there. absurd (omega (arith, there.0)) })
+  -- no outcome is left
+  pub done_full : length outcomes ≡ i → MakesAll K found places offers calls outs (length outcomes) now after outcomes
+  done_full e = subst (λ k. MakesAll K found places offers calls outs k now after outcomes) (sym e)
+      (record { among = d.among; noted = d.noted; steps = d.steps; ring = d.ring; rest = d.rest; early = λ c there. inl (omega (arith, d.long)) })

@@ -1,6 +1,5 @@
 // Run: a plan is opened, and the calls of a list are made in order.
 
-ghost use Rattle.std.specs.Prelude.{◌≡◌, ℕ, ◌<◌, length, slice_set};
 ghost use Rattle.runs.specs.States.{state};
 ghost use Rattle.plans.specs.Lists.{MakesAll, Runs};
 
@@ -9,14 +8,6 @@ use crate::opening::open;
 use costs::CostKind;
 use networks::{Network, Stop, TagRing};
 use runs::{Call, Outcome};
-
-// Writes an outcome.
-fn note<C: Copy>(outcomes: &mut [Outcome<C>], i: usize, outcome: Outcome<C>)
-    requires { i < length outcomes.old }
-    ensures { outcomes.new ≡ slice_set outcomes.old i outcome }
-{
-    outcomes[i] = outcome;
-}
 
 // Makes the calls in order, and says how many it made; it ends early only where outcomes or tags run short.
 fn make_all<N: Network>(
@@ -32,16 +23,16 @@ fn make_all<N: Network>(
 ) -> usize
     ensures { MakesAll N.Cost.CostKind.kind (state (N.meaning net.old) flow.old needs.now prices.old marks.old) tags.old.places offers.now calls.now outcomes.old result (state (N.meaning net.new) flow.new needs.now prices.new marks.new) tags.new.places outcomes.new }
 {
-    for (i, call) in calls.iter().enumerate() {
-        if i >= outcomes.len() {
+    for (i, slot) in outcomes.iter_mut().enumerate() {
+        let Some(call) = calls.get(i) else {
             return i;
-        }
+        };
         let Some(outcome) = make(net, flow, needs, prices, marks, tags, offers, *call) else {
             return i;
         };
-        note(outcomes, i, outcome);
+        *slot = outcome;
     }
-    calls.len()
+    outcomes.len()
 }
 
 // Opens a plan and makes the calls of a list on it, each outcome written into a lent table; answers how many

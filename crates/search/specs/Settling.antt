@@ -1,6 +1,7 @@
 -- How settle reads a price, and what it owes for each answer and refusal.
-use Rattle.std.specs.Prelude.{◌≡◌, ℕ, Bool, true, false, cond, List, length, take, ℤ, Ok, Err, Some, Option, Result, nat_le}
+use Rattle.std.specs.Prelude.{◌≡◌, ℕ, Bool, true, false, cond, List, ℤ, Ok, Err, Some, Option, Result, nat_le}
 use Rattle.std.specs.Prelude as prelude
+use Rattle.arrayvec.specs.ArrayVec.{ArrayVec}
 use Rattle.costs.specs.Kinds.{Kind}
 use Rattle.networks.specs.declared.stops.Stop.{Stop}
 use Rattle.networks.specs.Nets.{Net, shown}
@@ -18,9 +19,9 @@ abbrev pub tables : {C : Type 0} → List ℤ → List ℤ → List C → List �
 tables flow needs prices marks = record { flow = flow; needs = needs; prices = prices; marks = marks }
 
 -- what the guard leaves: the flow as it was saved, where it is still saved
-abbrev pub restored : Option (List ℤ) → List ℤ → List ℤ
+abbrev pub restored : Option (ArrayVec ℤ) → List ℤ → List ℤ
 restored prelude.None flow = flow
-restored (Some saved) flow = take (length flow) saved
+restored (Some saved) flow = saved.items
 
 -- how the seeking ended, by its answer
 abbrev pub end_of : {C : Type 0} → Answer C → Result ℕ Halt

@@ -1,4 +1,4 @@
-use Rattle.std.proofs.Common.{◌≡◌, ◌-◌, ◌*◌, ◌^◌, ◌<◌, cond, length, take, Ok, sym, ap, ◌∙◌, arith, rules}
+use Rattle.std.proofs.Common.{◌≡◌, ◌-◌, ◌*◌, ◌^◌, ◌<◌, cond, length, Ok, sym, ap, ◌∙◌, arith, rules}
 use Rattle.std.proofs.lemmas.Bool.{cond-true, cond-false}
 use Rattle.networks.specs.Nets.{shown}
 use Rattle.networks.specs.Answers.{refusal}
@@ -54,7 +54,7 @@ returns g c =
     let ready = ended_ready K n.nodes (shown n) flow (length flow) c.args.budget f qs c.clear.new.marks after a c.search-answer.ensures.ended in
     let left : c.drop-guard.new.self.0 ≡ cond (is_none_answer a) flow f = elim c.if-not-is_none.branch [
       | then-not-is_none w ↦ c.drop-guard.ensures ∙ ap (λ (r : Restore). restored r.saved r.flow.now) w.guard-is ∙ sym (cond-false _ _ _ (sym c.is_none.ensures ∙ w.if-not-is_none.true))
-      | else-not-is_none w ↦ c.drop-guard.ensures ∙ ap (λ (r : Restore). restored r.saved r.flow.now) w.guard-is ∙ ap (λ z. take z c.save.result) c.search-answer.auto.flow ∙ c.save.ensures ∙ sym (cond-true _ _ _ (sym c.is_none.ensures ∙ w.if-not-is_none.false))
+      | else-not-is_none w ↦ c.drop-guard.ensures ∙ ap (λ (r : Restore). restored r.saved r.flow.now) w.guard-is ∙ c.save.ensures ∙ sym (cond-true _ _ _ (sym c.is_none.ensures ∙ w.if-not-is_none.false))
     ] in
     let answers = answers_left K laws n.nodes (shown n) flow f qs rs c.tidy.ensures c.args.budget needs' ps marks c.clear.new.marks after p.needs_long (p.flow_long ∙ sym (length_shown n)) p.meets c.search-answer.auto.flow c.clear.ensures a c.drop-guard.new.self.0 c.search-answer.ensures.ended c.search-answer.ensures.total left in
     let settled = settled_by K n c.args.budget flow needs' ps marks a c.drop-guard.new.self.0 rs after answers (small_prices K laws n.nodes (shown n) flow f qs rs c.tidy.ensures ready.priced) in
