@@ -3,17 +3,14 @@
 use Rattle.std.proofs.Common.{◌≡◌, ℕ, ◌+◌, ◌≤◌, Bool, true, false, cond, List, sym, refl, ap, ◌∙◌, subst, arith}
 use Rattle.costs.specs.Kinds.{Kind, Laws, minus}
 use Rattle.flows.specs.Kilter.{price}
-use Rattle.flows.specs.Prices.{Raised}
+use Rattle.flows.specs.Prices.{Raised, SmallInside}
 use Rattle.flows.proofs.Group.{assoc, comm, right, back, cancel, size_minus}
 
 -- the prices of the nodes of 1 to N that are not inside are the old ones with d added
 abbrev pub Shifted : {C : Type 0} → Kind C → ℕ → List C → (ℕ → Bool) → List C → C → Type 0
 Shifted K N old inside ps d = (n : ℕ) → 1 ≤ n → n ≤ N → inside n ≡ false → price K ps n ≡ K.plus (price K old n) d
 
--- no price of a node inside, or of any node, has a size above b
-abbrev pub SmallInside : {C : Type 0} → Kind C → ℕ → (ℕ → Bool) → List C → ℕ → Type 0
-SmallInside K N inside ps b = (n : ℕ) → 1 ≤ n → n ≤ N → inside n ≡ true → K.size (price K ps n) ≤ b
-
+-- no price has a size above b
 abbrev pub SmallPrices : {C : Type 0} → Kind C → ℕ → List C → ℕ → Type 0
 SmallPrices K N ps b = (n : ℕ) → 1 ≤ n → n ≤ N → K.size (price K ps n) ≤ b
 

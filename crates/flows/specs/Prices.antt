@@ -14,6 +14,10 @@ Raised K N e inside ps qs = (n : ℕ) → 1 ≤ n → n ≤ N → price K qs n �
 abbrev pub Tells : (ℕ → Bool → Type 0) → ℕ → (ℕ → Bool) → Type 0
 Tells may_answer N inside = (k : ℕ) → k < N → (b : Bool) → may_answer k b → b ≡ inside (suc k)
 
+-- no price of a node inside has a size above b
+abbrev pub SmallInside : {C : Type 0} → Kind C → ℕ → (ℕ → Bool) → List C → ℕ → Type 0
+SmallInside K N inside ps b = (n : ℕ) → 1 ≤ n → n ≤ N → inside n ≡ true → K.size (price K ps n) ≤ b
+
 -- the sign does not turn: what is at least zero stays so, and what is at most zero
 pub record SignKept {C : Type 0} (K : Kind C) (c d : C) : Type 0 where
   pub up : K.le K.zero c ≡ true → K.le K.zero d ≡ true

@@ -1,6 +1,7 @@
 // Prices and reduced costs, whose sums are within the kinds' range.
 
 ghost use Rattle.std.specs.Prelude.{◌≡◌, ℕ, ◌+◌, ◌<◌, ◌≤◌, Bool, length};
+ghost use Rattle.costs.specs.Kinds.{size_limit};
 ghost use Rattle.flows.specs.Fits.{Fit, Bounded, price_limit, change_limit};
 ghost use Rattle.flows.specs.Kilter.{price, reduced as reduced_at};
 ghost use Rattle.flows.specs.Prices.{Tells, Raised};
@@ -10,7 +11,7 @@ use networks::Arc;
 
 // The sum of two costs that are not large.
 pub fn sum<C: CostKind>(a: C, b: C) -> C
-    requires { C.CostKind.kind.size a + C.CostKind.kind.size b ≤ 4000000000000000 }
+    requires { C.CostKind.kind.size a + C.CostKind.kind.size b ≤ size_limit }
     ensures value { result ≡ C.CostKind.kind.plus a b }
     ensures small { C.CostKind.kind.size result ≤ C.CostKind.kind.size a + C.CostKind.kind.size b }
 {
@@ -19,7 +20,7 @@ pub fn sum<C: CostKind>(a: C, b: C) -> C
 
 // The negative of a cost that is not large.
 pub fn opposite<C: CostKind>(a: C) -> C
-    requires { C.CostKind.kind.size a ≤ 4000000000000000 }
+    requires { C.CostKind.kind.size a ≤ size_limit }
     ensures value { result ≡ C.CostKind.kind.neg a }
     ensures small { C.CostKind.kind.size result ≤ C.CostKind.kind.size a }
 {

@@ -6,7 +6,7 @@ ghost use Rattle.flows.specs.Laps.{far, step_over};
 use costs::CostKind;
 use networks::Arc;
 
-#[derive(Clone, Copy, Default)]
+#[derive(Clone, Copy, Debug, Default, PartialEq, Eq)]
 pub struct Step {
     pub node: usize,
     pub arc: usize,

@@ -9,7 +9,7 @@ use costs::CostKind;
 use networks::{Arc, Network};
 
 // An arc with its reduced cost and the flow that it carries.
-#[derive(Clone, Copy)]
+#[derive(Clone, Copy, Debug, PartialEq, Eq)]
 pub struct Seen<C> {
     pub arc: Arc<C>,
     pub cost: C,

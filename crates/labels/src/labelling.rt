@@ -15,7 +15,7 @@ use flows::{Step, arcs_of, far_end};
 use networks::{Arc, MOST_NODES, Network};
 
 // A labelled node: the place of the node it was labelled from, and the step that leads here from there.
-#[derive(Clone, Copy, Default)]
+#[derive(Clone, Copy, Debug, Default, PartialEq, Eq)]
 pub struct Entry {
     pub node: usize,
     pub parent: usize,

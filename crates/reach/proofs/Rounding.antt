@@ -8,7 +8,7 @@ use Rattle.flows.specs.Fits.{Bounded, found_limit}
 use Rattle.flows.specs.Kilter.{price, reduced, kilter_number}
 use Rattle.flows.proofs.ArcSums.{each_at, each_from, each_long}
 use Rattle.flows.proofs.Group.{size_zero}
-use Rattle.flows.proofs.Shifts.{Shifted, SmallInside, SmallPrices, not_shifted, still_shifted, more_shifted, raised_inside, shift_small}
+use Rattle.flows.proofs.Shifts.{Shifted, SmallPrices, not_shifted, still_shifted, more_shifted, raised_inside, shift_small}
 use Rattle.labels.specs.declared.labelling.Labels.{Labels}
 use Rattle.labels.specs.Good.{count, node_at, place_of, Whole, Good, Grown}
 use Rattle.labels.specs.Ways.{Chosen}
@@ -18,6 +18,7 @@ use Rattle.reach.specs.declared.rounds.Over.{Over}
 use Rattle.labels.specs.Searches.{Searching}
 use Rattle.reach.specs.Rounds.{large, NoHigher, Repriced, Advanced}
 use Rattle.reach.proofs.Turning.{none_higher, same_source}
+use Rattle.flows.specs.Prices.{SmallInside}
 
 -- the largest size of the price of a labelled node, with k nodes labelled: each has at most twice the largest price at the start and one cost more
 abbrev pub bound : ℕ → ℕ

@@ -1,5 +1,5 @@
 -- What a round does, by what the next rise is for.
-use Rattle.std.proofs.Common.{◌≡◌, ◌+◌, ◌<◌, ◌≤◌, Bool, true, false, cond, List, length, get_or, ℤ, pos, Some, None, Option, Ok, Err, sym, refl, ap, subst, inl, inr, arith}
+use Rattle.std.proofs.Common.{◌≡◌, ◌+◌, ◌<◌, ◌≤◌, Bool, true, false, cond, List, length, get_or, ℤ, pos, Some, None, Option, Ok, Err, sym, refl, ap, ◌∙◌, subst, inl, inr, arith}
 use Rattle.std.proofs.lemmas.Bool.{lt-ltb, le-ltb}
 use Rattle.costs.specs.Kinds.{Kind, Laws}
 use Rattle.networks.specs.Nets.{IsAt}
@@ -16,6 +16,7 @@ use Rattle.labels.specs.Good.{count, node_at, place_of, Labelled, Good, Grown, p
 use Rattle.labels.specs.Ways.{Chosen}
 use Rattle.labels.proofs.Extending.{grown_none}
 use Rattle.reach.specs.declared.scans.Best.{Best}
+use Rattle.reach.specs.declared.rises.Rise.{Rise}
 use Rattle.reach.specs.declared.rises.Rise.TheVariants.{Label, Kilter}
 use Rattle.reach.specs.declared.rounds.Over.TheVariants as over
 use Rattle.reach.specs.Scans.{is_labelled, AtMost, BestIs, Sighted, Ripe, link_over}
@@ -74,16 +75,33 @@ pub same_source : {C : Type 0} (K : Kind C) (arcs : List (Arc C)) (flow : List �
     Chosen K arcs flow ps chosen (node_at ls 0) → Chosen K arcs flow ps chosen (node_at ms 0)
 same_source K arcs flow ps chosen ls ms some grown step = subst (Chosen K arcs flow ps chosen) (ap (λ e. e.node) (sym (grown.same 0 (omega arith)))) step
 
--- a node more is labelled at the same prices
-pub open_done : {C : Type 0} (K : Kind C) (arcs : List (Arc C)) (flow : List ℤ) (ps : List C) (chosen : Step) (ls ms : Labels) → 1 ≤ count ls → Chosen K arcs flow ps chosen (node_at ls 0) → length flow ≡ length arcs →
-    Good K arcs flow ps chosen.arc ms → Grown ls ms → count ms ≡ count ls + 1 → Advanced K arcs flow ps ps chosen ls ms (Ok tt)
-open_done K arcs flow ps chosen ls ms some step long good grown more = record {
-  long = refl;
-  changed = inl refl;
-  eased = none_higher K arcs flow ps long;
-  grown = grown;
-  ends = (good, same_source K arcs flow ps chosen ls ms some grown step, more);
-}
+-- over an arc that may move, a node more is labelled at the same prices
+module _ {C : Type 0} {K : Kind C} {arcs : List (Arc C)} {flow : List ℤ} {ps : List C} {chosen : Step} {ls : Labels} (now : Searching K arcs flow ps chosen ls) (few : length ps ≤ 256)
+    {x : Step} (ripe : Ripe K arcs flow ps chosen.arc ls x) {a : Arc C} (is : IsAt arcs x.arc a) where
+  pub open_node : (1 ≤ x.node) × (x.node ≤ 256)
+  open_node = link_node K arcs flow ps chosen.arc few ls now.good now.fitting x ripe a is
+
+  pub open_near : Labelled ls x.node
+  open_near = link_near K arcs flow ps chosen.arc few ls now.good now.fitting x ripe a is
+
+  pub open_room : count ls < 256
+  open_room = link_room K arcs flow ps chosen.arc few ls now.good now.fitting x ripe a is
+
+  pub open_done : (ms : Labels) → ms ≡ pushed ls (link_over ls a x) → Advanced K arcs flow ps ps chosen ls ms (Ok tt)
+  open_done ms e = record {
+    long = refl;
+    changed = inl refl;
+    eased = none_higher K arcs flow ps now.long;
+    grown = grown;
+    ends = (
+      link_good K arcs flow ps chosen.arc few ls now.good now.fitting x ripe a is ms e,
+      same_source K arcs flow ps chosen ls ms now.good.some grown now.wanted,
+      link_more K arcs flow ps chosen.arc few ls now.good now.fitting x ripe a is ms e,
+    );
+  }
+    where
+      grown : Grown ls ms
+      grown = link_grown K arcs flow ps chosen.arc few ls now.good now.fitting x ripe a is ms e
 
 module _ {C : Type 0} {K : Kind C} (laws : Laws K) {arcs : List (Arc C)} {flow : List ℤ} {ps : List C} {chosen : Step} {ls : Labels} (now : Searching K arcs flow ps chosen ls)
     (small : Bounded K price_limit ps) (sought : place_of ls chosen.node ≡ 0) {best : Option (Best C)} (seen : Sighted K arcs flow ps chosen.arc ls (length arcs) best) where
@@ -97,19 +115,22 @@ module _ {C : Type 0} {K : Kind C} (laws : Laws K) {arcs : List (Arc C)} {flow :
   abbrev own : Option C
   own = own_limit_at K (reduced K ps the_arc) the_arc chosen.along (get_or flow chosen.arc (pos 0))
 
-  pub cut_done : NextIs K arcs flow ps chosen best None → Advanced K arcs flow ps ps chosen ls ls (Err over.Cut)
-  cut_done next = record {
+  pub cut_done : {r : Option (Rise C)} → NextIs K arcs flow ps chosen best r → r ≡ None → Advanced K arcs flow ps ps chosen ls ls (Err over.Cut)
+  cut_done next cut = record {
     long = refl;
     changed = inl refl;
     eased = none_higher K arcs flow ps now.long;
     grown = grown_none ls;
-    ends = let n = next_none K own best (next the_arc aimed.is) in cut_off K laws arcs flow ps chosen ls best now.fitting now.long seen the_arc aimed n.0 n.1;
+    ends = let n = next_none K own best (sym cut ∙ next the_arc aimed.is) in cut_off K laws arcs flow ps chosen ls best now.fitting now.long seen the_arc aimed n.0 n.1;
   }
 
   -- the chosen arc's own limit comes first
-  module _ {e : C} (next : NextIs K arcs flow ps chosen best (Some (Kilter e))) where
+  module _ {e : C} {r : Option (Rise C)} (next : NextIs K arcs flow ps chosen best r) (kilter : r ≡ Some (Kilter e)) where
+    first : Some (Kilter e) ≡ next_of K own best
+    first = sym kilter ∙ next the_arc aimed.is
+
     own_first : own ≡ Some e
-    own_first = (next_kilter K own best e (next the_arc aimed.is)).0
+    own_first = (next_kilter K own best e first).0
 
     pub kilter_small : K.size e ≤ change_limit
     kilter_small = own_small K laws arcs flow ps chosen ls the_arc aimed e own_first small
@@ -120,15 +141,15 @@ module _ {C : Type 0} {K : Kind C} (laws : Laws K) {arcs : List (Arc C)} {flow :
       changed = inr (own_lands K laws arcs flow ps chosen ls the_arc aimed qs e raised own_first);
       eased = eased K laws arcs flow ps chosen ls best now.fitting now.long seen the_arc aimed qs e raised
           (own_up K laws (reduced K ps the_arc) e the_arc chosen.along (get_or flow chosen.arc (pos 0)) aimed.wants own_first)
-          ((next_kilter K own best e (next the_arc aimed.is)).1 laws) (own_up_to K laws own e own_first);
+          ((next_kilter K own best e first).1 laws) (own_up_to K laws own e own_first);
       grown = grown_none ls;
       ends = in_kilter K laws arcs flow ps chosen ls best now.fitting now.long seen the_arc aimed qs e raised own_first;
     }
 
   -- the least slack comes first
-  module _ {b : Best C} (next : NextIs K arcs flow ps chosen best (Some (Label b))) where
+  module _ {b : Best C} {r : Option (Rise C)} (next : NextIs K arcs flow ps chosen best r) (label : r ≡ Some (Label b)) where
     best_first : (best ≡ Some b) × ShortOf K own b.slack
-    best_first = next_label K own best b (next the_arc aimed.is)
+    best_first = next_label K own best b (sym label ∙ next the_arc aimed.is)
 
     found : BestIs K arcs flow ps chosen.arc ls (Some b)
     found = subst (BestIs K arcs flow ps chosen.arc ls) best_first.0 seen.found

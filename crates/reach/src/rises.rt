@@ -1,6 +1,8 @@
 // Rises of prices: how far the prices of the nodes that are not labelled go up next, and what for.
 
 ghost use Rattle.std.specs.Prelude.{◌≡◌, ℕ, ◌<◌, ◌≤◌, length};
+ghost use Rattle.costs.specs.Kinds.{size_limit};
+ghost use Rattle.networks.specs.Limits.{most_nodes};
 ghost use Rattle.networks.specs.Nets.{shown};
 ghost use Rattle.flows.specs.Fits.{Bounded, price_limit, change_limit};
 ghost use Rattle.flows.specs.Prices.{Raised};
@@ -22,7 +24,7 @@ pub enum Rise<C> {
 
 // Raises the prices of the nodes that are not labelled.
 pub fn raise<C: CostKind>(prices: &mut [C], labels: &Labels, by: C)
-    requires few { length prices.old ≤ 256 }
+    requires few { length prices.old ≤ most_nodes }
     requires moderate { Bounded C.CostKind.kind price_limit prices.old }
     requires small { C.CostKind.kind.size by ≤ change_limit }
     ensures raised { Raised C.CostKind.kind (length prices.old) by (is_labelled labels.now) prices.old prices.new }
@@ -33,7 +35,7 @@ pub fn raise<C: CostKind>(prices: &mut [C], labels: &Labels, by: C)
 
 // By how much prices may rise before the chosen arc is in kilter: no limit while it is outside its bounds.
 fn own_limit<C: CostKind>(seen: Seen<C>, along: bool) -> Option<C>
-    requires { C.CostKind.kind.size seen.cost ≤ 4000000000000000 }
+    requires { C.CostKind.kind.size seen.cost ≤ size_limit }
     ensures { result ≡ own_limit_at C.CostKind.kind seen.cost seen.arc along seen.flow }
 {
     let Seen { arc, cost, flow } = seen;

@@ -1,6 +1,7 @@
 // The rounds of reach: label, then change prices so that one node more can be labelled.
 
 ghost use Rattle.std.specs.Prelude.{◌≡◌, ℕ, ◌<◌, ◌≤◌, length};
+ghost use Rattle.networks.specs.Limits.{most_nodes};
 ghost use Rattle.networks.specs.Nets.{shown};
 ghost use Rattle.flows.specs.Fits.{Bounded, price_limit};
 ghost use Rattle.labels.specs.Good.{count, place_of};
@@ -17,7 +18,7 @@ use networks::Network;
 use std::ops::ControlFlow;
 
 // Why the sought node is not reached: the chosen arc is in kilter, or nothing limits the prices.
-#[derive(Clone, Copy)]
+#[derive(Clone, Copy, Debug, PartialEq, Eq)]
 pub enum Over {
     Kilter,
     Cut,
@@ -34,7 +35,7 @@ fn change<N: Network>(
 ) -> Result<(), Over>
     requires searching { Searching N.Cost.CostKind.kind (shown (N.meaning net.now)) flow.now prices.old chosen labels.old }
     requires moderate { Bounded N.Cost.CostKind.kind price_limit prices.old }
-    requires few { length prices.old ≤ 256 }
+    requires few { length prices.old ≤ most_nodes }
     requires sought { place_of labels.old chosen.node ≡ 0 }
     requires sighted { Sighted N.Cost.CostKind.kind (shown (N.meaning net.now)) flow.now prices.old chosen.arc labels.old (length (shown (N.meaning net.now))) best }
     ensures { Advanced N.Cost.CostKind.kind (shown (N.meaning net.now)) flow.now prices.old prices.new chosen labels.old labels.new result }
@@ -67,7 +68,7 @@ fn advance<N: Network>(
 ) -> Result<(), Over>
     requires searching { Searching N.Cost.CostKind.kind (shown (N.meaning net.now)) flow.now prices.old chosen labels.old }
     requires moderate { Bounded N.Cost.CostKind.kind price_limit prices.old }
-    requires few { length prices.old ≤ 256 }
+    requires few { length prices.old ≤ most_nodes }
     requires sought { place_of labels.old chosen.node ≡ 0 }
     ensures { Advanced N.Cost.CostKind.kind (shown (N.meaning net.now)) flow.now prices.old prices.new chosen labels.old labels.new result }
 {
@@ -93,7 +94,7 @@ pub fn reach<N: Network>(
     labels: &mut Labels,
 ) -> Result<(), Over>
     requires searching { Searching N.Cost.CostKind.kind (shown (N.meaning net.now)) flow.now prices.old chosen labels.old }
-    requires few { length prices.old ≤ 256 }
+    requires few { length prices.old ≤ most_nodes }
     requires tame { Bounded N.Cost.CostKind.kind large prices.old }
     requires one { count labels.old ≡ 1 }
     ensures prices { Repriced N.Cost.CostKind.kind (shown (N.meaning net.now)) flow.now prices.old prices.new }

@@ -1,6 +1,8 @@
 // The arcs between the labelled nodes and the others: one that may move at once, or the one with the least slack.
 
 ghost use Rattle.std.specs.Prelude.{◌≡◌, ℕ, ◌+◌, ◌-◌, ◌<◌, ◌≤◌, length};
+ghost use Rattle.costs.specs.Kinds.{size_limit};
+ghost use Rattle.networks.specs.Limits.{most_nodes};
 ghost use Rattle.networks.specs.Nets.{shown, IsAt};
 ghost use Rattle.flows.specs.Flows.{Ends};
 ghost use Rattle.labels.specs.Good.{Labelled, count, pushed};
@@ -21,7 +23,7 @@ pub struct Best<C> {
 
 // The way in which an arc leads from the labelled nodes to the others.
 fn way_across<C: CostKind>(arc: Arc<C>, labels: &Labels) -> Option<bool>
-    requires { Ends 256 arc }
+    requires { Ends most_nodes arc }
     ensures { result ≡ crossing_at labels.now arc }
 {
     match (
@@ -36,20 +38,14 @@ fn way_across<C: CostKind>(arc: Arc<C>, labels: &Labels) -> Option<bool>
 
 // By how much prices may rise before the arc may move.
 fn slack<C: CostKind>(seen: Seen<C>, along: bool) -> Option<C>
-    requires { C.CostKind.kind.size seen.cost ≤ 4000000000000000 }
+    requires { C.CostKind.kind.size seen.cost ≤ size_limit }
     ensures { result ≡ slack_at C.CostKind.kind seen.cost seen.arc along seen.flow }
 {
     let Seen { arc, cost, flow } = seen;
     if along {
-        if cost <= C::zero() || flow >= arc.hi {
-            None
-        } else {
-            Some(cost)
-        }
-    } else if C::zero() <= cost || flow <= arc.lo {
-        None
+        (cost > C::zero() && flow < arc.hi).then_some(cost)
     } else {
-        Some(opposite(cost))
+        (cost < C::zero() && flow > arc.lo).then(|| opposite(cost))
     }
 }
 
@@ -68,7 +64,7 @@ fn sight<C: CostKind>(
     over: Step,
     best: Option<Best<C>>,
 ) -> ControlFlow<Step, Option<Best<C>>>
-    requires { C.CostKind.kind.size seen.cost ≤ 4000000000000000 }
+    requires { C.CostKind.kind.size seen.cost ≤ size_limit }
     ensures { result ≡ sight_of C.CostKind.kind seen.cost seen.arc over seen.flow best }
 {
     if may(seen, over.along) {
@@ -117,10 +113,10 @@ pub fn look_round<N: Network>(
 
 // Labels the far end of an arc that leads across.
 pub fn link<C: CostKind>(arc: Arc<C>, over: Step, labels: &mut Labels)
-    requires ends { Ends 256 arc }
-    requires node { (1 ≤ over.node) × (over.node ≤ 256) }
+    requires ends { Ends most_nodes arc }
+    requires node { (1 ≤ over.node) × (over.node ≤ most_nodes) }
     requires near { Labelled labels.old over.node }
-    requires room { count labels.old < 256 }
+    requires room { count labels.old < most_nodes }
     ensures { labels.new ≡ pushed labels.old (link_over labels.old arc over) }
 {
     let parent = labels.place(over.node).unwrap();

@@ -6,6 +6,7 @@ pub mod Starting
 pub mod AtHand
 pub mod Marking
 pub mod Steps
+pub mod Ending
 pub mod Opening
 pub mod Answering
 pub mod Wording

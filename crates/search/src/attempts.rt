@@ -1,6 +1,7 @@
 // One attempt to bring an arc nearer to kilter: by a change of prices, or by one lap.
 
 ghost use Rattle.std.specs.Prelude.{◌≡◌, ℕ, ◌+◌, ◌<◌, ◌≤◌, true, false, length, if◌then◌else◌, MatchOption, slice_index};
+ghost use Rattle.networks.specs.Limits.{most_nodes};
 ghost use Rattle.networks.specs.Nets.{shown};
 ghost use Rattle.flows.specs.Fits.{Bounded};
 ghost use Rattle.reach.specs.Scans.{is_labelled};
@@ -67,7 +68,7 @@ fn wanted<N: Network>(view: &View<N>, i: usize) -> Option<Choice>
 
 // Marks the labelled nodes with 1 and the others with 0.
 fn mark(marks: &mut [u8], labels: &Labels)
-    requires { length marks.old ≤ 256 }
+    requires { length marks.old ≤ most_nodes }
     ensures { (k : ℕ) → k < length marks.new → slice_index marks.new k ≡ (if is_labelled labels.now (k + 1) then 1 else 0) }
 {
     for (i, m) in marks.iter_mut().enumerate() {

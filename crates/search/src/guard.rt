@@ -1,6 +1,7 @@
 // The guard over a lent flow: it puts the flow back as it was saved, unless the search commits.
 
 ghost use Rattle.std.specs.Prelude.{◌≡◌, ◌≤◌, length, IfSome};
+ghost use Rattle.networks.specs.Limits.{most_arcs};
 ghost use Rattle.search.specs.Settling.{restored};
 
 use arrayvec::ArrayVec;
@@ -26,7 +27,7 @@ impl Drop for Restore<'_> {
 
 // A copy of the flow.
 pub fn save(flow: &[i32]) -> ArrayVec<i32, MOST_ARCS>
-    requires { length flow.now ≤ 1024 }
+    requires { length flow.now ≤ most_arcs }
     ensures { result.items ≡ flow.now }
 {
     ArrayVec::try_from(flow).unwrap()

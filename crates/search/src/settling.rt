@@ -1,6 +1,7 @@
 // Settle: the search for a least-cost flow from the flow found, with its answer.
 
 ghost use Rattle.std.specs.Prelude.{◌≡◌, ℕ, ◌<◌, ◌≤◌, cond, length, slice_index, slice_index_or};
+ghost use Rattle.networks.specs.Limits.{most_arcs};
 ghost use Rattle.networks.specs.Answers.{refusal};
 ghost use Rattle.networks.specs.Nets.{shown};
 ghost use Rattle.flows.specs.Fits.{Fitting};
@@ -71,7 +72,7 @@ fn search<N: Network>(
     budget: u32,
 ) -> Answer<N::Cost>
     requires going { Going N.Cost.CostKind.kind (N.meaning net.now).nodes (shown (N.meaning net.now)) flow.old 0 0 flow.old prices.old }
-    requires few { length flow.old ≤ 1024 }
+    requires few { length flow.old ≤ most_arcs }
     requires marks { length marks.old ≡ (N.meaning net.now).nodes }
     ensures ended { Ended N.Cost.CostKind.kind (N.meaning net.now).nodes (shown (N.meaning net.now)) flow.old (length flow.old) budget flow.new prices.new marks.old marks.new (end_of result) }
     ensures total { HasTotal result (total_of (sums N.Cost.CostKind.kind) (shown (N.meaning net.now)) flow.new) }

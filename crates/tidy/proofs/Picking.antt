@@ -10,10 +10,9 @@ use Rattle.tidy.specs.Picks.{slack_of, nearest_of, first_free_of, picked, unmark
 use Rattle.tidy.proofs.Order.{nearest_allows, nearest_is, nearest_none}
 use Rattle.tidy.proofs.Marks.{some_labelled_at, first_free}
 use Rattle.flows.proofs.Nearer.{sign_raised, to_lands, from_lands, none_larger}
-use Rattle.flows.proofs.Shifts.{SmallInside}
 use Rattle.flows.specs.Kilter.{reduced, price, largest}
 use Rattle.flows.specs.Flows.{Ends}
-use Rattle.flows.specs.Prices.{SignKept, SignsKept, Raised, nearer}
+use Rattle.flows.specs.Prices.{SignKept, SignsKept, Raised, nearer, SmallInside}
 use Rattle.flows.specs.Fits.{Bounded, price_limit, change_limit}
 
 pub all_both : {X : Type 0} (P Q R : X → Type 0) → ((x : X) → P x → Q x → R x) → (xs : List X) → AllByRecursion P xs → AllByRecursion Q xs → AllByRecursion R xs

@@ -4,11 +4,11 @@ use Rattle.std.proofs.lemmas.Bool.{cases_eq}
 use Rattle.networks.specs.declared.network.Arc.{Arc}
 use Rattle.costs.specs.Kinds.{Kind, Laws}
 use Rattle.flows.specs.Kilter.{price, reduced, largest}
-use Rattle.flows.specs.Prices.{Raised, SignKept, SignsKept}
+use Rattle.flows.specs.Prices.{Raised, SignKept, SignsKept, SmallInside}
 use Rattle.flows.specs.Fits.{Bounded, found_limit, price_limit}
 use Rattle.flows.proofs.Group.{size_zero}
 use Rattle.flows.proofs.Prices.{sign_same, sign_trans}
-use Rattle.flows.proofs.Shifts.{Shifted, SmallInside, SmallPrices, not_shifted, still_shifted, more_shifted, raised_inside, raised_outside, shift_small, all_small}
+use Rattle.flows.proofs.Shifts.{Shifted, SmallPrices, not_shifted, still_shifted, more_shifted, raised_inside, raised_outside, shift_small, all_small}
 use Rattle.tidy.specs.declared.picks.Pick.{Pick}
 use Rattle.tidy.specs.Picks.{labelled_at, unmarked, GoodPick, Tidied}
 use Rattle.tidy.proofs.Marks.{one_less, all_labelled_at, some_labelled_at}
