@@ -39,10 +39,8 @@ fn own_limit<C: CostKind>(seen: Seen<C>, along: bool) -> Option<C>
     ensures { result ≡ own_limit_at C.CostKind.kind seen.cost seen.arc along seen.flow }
 {
     let Seen { arc, cost, flow } = seen;
-    if !(arc.lo..=arc.hi).contains(&flow) {
-        return None;
-    }
-    Some(if along { opposite(cost) } else { cost })
+    let fits = (arc.lo..=arc.hi).contains(&flow);
+    fits.then(|| if along { opposite(cost) } else { cost })
 }
 
 // The lesser of the chosen arc's own limit and the least slack; none where nothing limits the prices.
