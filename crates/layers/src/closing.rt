@@ -1,6 +1,7 @@
 // Closing: supplies and demands over any network, and the arc that closes the flow.
 
 ghost use Rattle.std.specs.Prelude.{◌≡◌, ℕ, ◌≤◌, []};
+ghost use Rattle.networks.specs.Limits.{most_nodes};
 ghost use Rattle.networks.specs.Answers.{refusal};
 ghost use Rattle.layers.specs.declared.entry.Side.TheVariants.{Supply, Demand};
 ghost use Rattle.layers.specs.Closings.{closing_stop, closing_net, entry_stop, added, return_arc as return_arc_of, is_fit as is_fit_of, is_lower as is_lower_of, Keeps, Lies};
@@ -107,7 +108,7 @@ impl<N: Network> Closing<N, N::Cost> {
 
     // The arc that closes the flow.
     fn return_arc(&self) -> Arc<N::Cost>
-        requires { (N.Network.meaning self.now.below).nodes ≤ 256 }
+        requires { (N.Network.meaning self.now.below).nodes ≤ most_nodes }
         ensures { result ≡ return_arc_of (N.Network.meaning self.now.below).nodes self.now.bounds self.now.cost }
     {
         let nodes = self.below.nodes();

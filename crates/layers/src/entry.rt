@@ -1,6 +1,7 @@
 // An entry of a closing: a supply or a demand at a node, with its bounds.
 
 ghost use Rattle.std.specs.Prelude.{◌≡◌, ℕ, ◌≤◌};
+ghost use Rattle.networks.specs.Limits.{most_nodes};
 ghost use Rattle.layers.specs.Closings.{entry_arc};
 
 use networks::{Arc, Bounds};
@@ -24,7 +25,7 @@ pub struct Entry {
 impl Entry {
     // The entry as an arc over so many nodes.
     pub fn as_arc<C>(self, nodes: usize, zero: C) -> Arc<C>
-        requires { nodes ≤ 256 }
+        requires { nodes ≤ most_nodes }
         ensures { result ≡ entry_arc nodes zero self }
     {
         let (from, to) = match self.side {

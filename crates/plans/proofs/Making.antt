@@ -19,8 +19,9 @@ use Rattle.plans.specs.Keeping.{done_came, Keeps}
 use Rattle.plans.specs.Lists.{ShortOfTags, retagged, ring_after, Makes, MakesAll}
 
 -- a call that leaves the tags alone
-pub plain_makes : {C : Type 0} (K : Kind C) (p q : State C) (places : List ℕ) (c : Asked C) (y : Outcome C) (o : Came C) → came y ≡ o → retagged places c ≡ places → Keeps K p (event c o) q → Makes K p places c (Some y) q places
-plain_makes K p q places c y o is same keeps = (subst (λ x. Keeps K p (event c x) q) (sym is) keeps, kept (is_granted (came y)) (retagged places c) same)
+pub plain_makes : {C : Type 0} {K : Kind C} {p q : State C} {places : List ℕ} {d c : Asked C} → d ≡ c → (y : Outcome C) {o : Came C} → came y ≡ o → retagged places c ≡ places → Keeps K p (event c o) q → Makes K p places d (Some y) q places
+plain_makes {K = K} {p} {q} {places} {d} {c} e y is same keeps =
+    subst (λ k. Makes K p places k (Some y) q places) (sym e) (subst (λ x. Keeps K p (event c x) q) (sym is) keeps, kept (is_granted (came y)) (retagged places c) same)
   where
     kept : (b : Bool) (xs : List ℕ) → xs ≡ places → places ≡ cond b xs places
     kept true xs e = sym e
@@ -48,17 +49,23 @@ module _ {C : Type 0} (K : Kind C) (n m due : Net C) (t : Tables C) (places afte
       go None (Err f) e l = absurd cc
       go (Some f) (Err g) e l = l
 
-  pub ring_makes : (b : Bool) (r : Option (Result (Unit {0}) Stop)) (o : Option (Outcome C)) → option_map came o ≡ option_map done_came r → option_map refusal r ≡ cond b (Some s) None →
+  made_by : (b : Bool) (r : Option (Result (Unit {0}) Stop)) (o : Option (Outcome C)) → option_map came o ≡ option_map done_came r → option_map refusal r ≡ cond b (Some s) None →
       m ≡ cond b due n → after ≡ cond b (unless s places put) places → (b ≡ false → ShortOfTags places c) → ((x : Result (Unit {0}) Stop) → refusal x ≡ s → m ≡ due → Keeps K here (event c (done_came x)) there) → Makes K here places c o there after
-  ring_makes true (Some x) (Some y) came-so said-so net-is ring-is short keeps =
+  made_by true (Some x) (Some y) came-so said-so net-is ring-is short keeps =
       let so : refusal x ≡ s = cc in
       let is : came y ≡ done_came x = cc in
       (subst (λ z. Keeps K here (event c z) there) (sym is) (keeps x so net-is), ring x so ring-is ∙ ap (λ z. cond (is_granted z) (retagged places c) places) (sym is))
-  ring_makes true (Some x) None came-so said-so net-is ring-is short keeps = absurd cc
-  ring_makes true None o came-so said-so net-is ring-is short keeps = absurd cc
-  ring_makes false None None came-so said-so net-is ring-is short keeps = (short refl, ap (λ (k : Net C). record { net = k; tables = t }) net-is, ring-is)
-  ring_makes false None (Some y) came-so said-so net-is ring-is short keeps = absurd cc
-  ring_makes false (Some x) o came-so said-so net-is ring-is short keeps = absurd cc
+  made_by true (Some x) None came-so said-so net-is ring-is short keeps = absurd cc
+  made_by true None o came-so said-so net-is ring-is short keeps = absurd cc
+  made_by false None None came-so said-so net-is ring-is short keeps = (short refl, ap (λ (k : Net C). record { net = k; tables = t }) net-is, ring-is)
+  made_by false None (Some y) came-so said-so net-is ring-is short keeps = absurd cc
+  made_by false (Some x) o came-so said-so net-is ring-is short keeps = absurd cc
+
+pub ring_makes : {C : Type 0} {K : Kind C} {n m due : Net C} {t : Tables C} (places : List ℕ) {after put : List ℕ} {c d : Asked C} {s : Option Told} → retagged places c ≡ put → d ≡ c → (b : Bool) (r : Option (Result (Unit {0}) Stop)) (o : Option (Outcome C)) →
+    option_map came o ≡ option_map done_came r → option_map refusal r ≡ cond b (Some s) None → m ≡ cond b due n → after ≡ cond b (unless s places put) places → (b ≡ false → ShortOfTags places c) →
+    ((x : Result (Unit {0}) Stop) → refusal x ≡ s → m ≡ due → Keeps K (record { net = n; tables = t }) (event c (done_came x)) (record { net = m; tables = t })) → Makes K (record { net = n; tables = t }) places d o (record { net = m; tables = t }) after
+ring_makes {K = K} {n} {m} {due} {t} places {after} {put} {c} {d} {s} put_is e b r o came-so said-so net-is ring-is short keeps =
+    subst (λ k. Makes K (record { net = n; tables = t }) places k o (record { net = m; tables = t }) after) (sym e) (made_by K n m due t places after put c s put_is b r o came-so said-so net-is ring-is short keeps)
 
 -- ---- lists of calls
 
