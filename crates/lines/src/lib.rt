@@ -5,6 +5,7 @@
 #![tactic(auto)]
 
 ghost use Rattle.std.specs.Prelude.{◌≡◌, ℕ, ◌≤◌, length, ◌≤ℤ◌, IfOk};
+ghost use Rattle.networks.specs.Limits.{most_arcs};
 ghost use Rattle.tokens.specs.Tokens.{Within, shape};
 ghost use Rattle.lines.specs.Readings.{start_of, past, fault_at, ended};
 ghost use Rattle.lines.specs.Lines.{shown_token, token_at, expects, starts, number_in, within_in, count_in, finishes, shown_pair, pair_of, low_in, high_in, bounds_in};
@@ -33,7 +34,7 @@ impl<'a> Model for Cursor<'a> {
 }
 
 // A number of a line: what it says, and where it stands.
-#[derive(Clone, Copy)]
+#[derive(Clone, Copy, Debug, PartialEq, Eq)]
 pub struct Numeral {
     pub value: i32,
     pub spot: Spot,
@@ -166,7 +167,7 @@ impl<'a> Cursor<'a> {
 
     // A count in brackets, after its name, if it is from the least to the most.
     pub fn count(&mut self, name: &[u8], least: usize, most: usize) -> Result<usize, LineFault>
-        requires { (least ≤ most) × (most ≤ 1024) }
+        requires { (least ≤ most) × (most ≤ most_arcs) }
         ensures within { IfOk result (λ k. (least ≤ k) × (k ≤ most)) }
         ensures is { ended result self.new ≡ count_in name.now least most self.old }
     {

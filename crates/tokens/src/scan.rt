@@ -1,13 +1,13 @@
 // Tokens: what stands at the front of a text. Words and numbers are parts of the text.
 
-ghost use Rattle.std.specs.Prelude.{◌≡◌, ℕ, ◌+◌, ◌^◌, ◌<◌, ◌≤◌, length, IfOk};
+ghost use Rattle.std.specs.Prelude.{◌≡◌, ℕ, ◌+◌, ◌^◌, ◌<◌, ◌≤◌, length, drop, IfOk};
 ghost use Rattle.std.specs.Char.{is_ascii_digit, is_ascii_lowercase};
 ghost use Rattle.std.specs.List.{prefix_len};
 ghost use Rattle.tokens.specs.Tokens.{sign_of, shape, bytes_of, shown, number_at, front_of, Within, decimal, value_of};
 
 use crate::Cause;
 
-#[derive(Clone, Copy)]
+#[derive(Clone, Copy, Debug, PartialEq, Eq)]
 pub enum Token<'a> {
     Open,
     Close,
@@ -37,12 +37,15 @@ fn digits(s: &[u8]) -> usize
     s.iter().take_while(|b| b.is_ascii_digit()).count()
 }
 
-// How many bytes the sign of a number takes.
-fn sign(s: &[u8]) -> usize
-    ensures within { result ≤ length s.now }
-    ensures is { result ≡ sign_of s.now }
+// What stands after the minus, or all where there is none.
+fn unsigned<'a>(s: &'a [u8]) -> &'a [u8]
+    ensures within { length result.now + sign_of s.now ≡ length s.now }
+    ensures is { result.now ≡ drop (sign_of s.now) s.now }
 {
-    usize::from(s.starts_with(b"-"))
+    match s {
+        [b'-', tail @ ..] => tail,
+        _ => s,
+    }
 }
 
 // The number at the front: a sign or none, then 1 to 7 digits, of which a zero stands alone.
@@ -50,13 +53,13 @@ fn number<'a>(s: &'a [u8]) -> Result<Token<'a>, Cause>
     ensures within { IfOk result (λ t. Within t (length s.now)) }
     ensures is { shown result ≡ number_at s.now }
 {
-    let minus = sign(s);
-    let (_, tail) = s.split_at(minus);
+    let tail = unsigned(s);
     let n = digits(tail);
-    if n == 0 || n > MOST_DIGITS || tail[0] == b'0' && minus + n > 1 {
+    let whole = s.len() - tail.len() + n;
+    if !(1..=MOST_DIGITS).contains(&n) || tail[0] == b'0' && whole > 1 {
         return Err(Cause::Number);
     }
-    Ok(Token::Number(&s[..minus + n]))
+    Ok(Token::Number(&s[..whole]))
 }
 
 // The token at the front.
@@ -109,8 +112,8 @@ pub fn value(w: &[u8]) -> i32
     requires { length w.now ≤ sign_of w.now + 7 }
     ensures { result ≡ value_of w.now }
 {
-    let minus = sign(w);
-    let (_, digits) = w.split_at(minus);
-    let v = magnitude(digits) as i32;
-    if minus > 0 { -v } else { v }
+    match w {
+        [b'-', digits @ ..] => -(magnitude(digits) as i32),
+        _ => magnitude(w) as i32,
+    }
 }

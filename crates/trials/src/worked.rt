@@ -1,8 +1,10 @@
 // The worked networks.
 
 use crate::tables::try_from;
-use costs::{Plain, TwoTier};
+use costs::{CostKind, Plain, TwoTier};
+use files::FileCost;
 use makes::{ArcTable, Row};
+use networks::{MOST_ARCS, MOST_NODES};
 use search::FULL_BUDGET;
 use std::io;
 
@@ -59,18 +61,9 @@ pub fn two_nodes(rt: &HostRuntime) -> io::Result<()> {
 }
 
 pub fn two_tier(rt: &HostRuntime) -> io::Result<()> {
-    let dear = TwoTier {
-        first: 1,
-        second: 0,
-    };
-    let cheap = TwoTier {
-        first: 0,
-        second: 9,
-    };
-    let zero = TwoTier {
-        first: 0,
-        second: 0,
-    };
+    let dear = TwoTier::of_tiers(1, 0);
+    let cheap = TwoTier::of_tiers(0, 9);
+    let zero = TwoTier::zero();
     let mut rows = [
         Row::new(1, 2, 0, 5, dear),
         Row::new(1, 2, 0, 5, cheap),
@@ -86,12 +79,12 @@ pub fn two_tier(rt: &HostRuntime) -> io::Result<()> {
     )
 }
 
-// 256 nodes in a ring, each with four arcs to the next: the largest table.
+// The largest table: as many nodes as there may be in a ring, each with four arcs to the next.
 pub fn ring(rt: &HostRuntime) -> io::Result<()> {
-    let mut rows = [Row::new(1, 1, 0, 0, Plain { units: 0 }); 1024];
+    let mut rows = [Row::new(1, 1, 0, 0, Plain { units: 0 }); MOST_ARCS];
     for (i, slot) in rows.iter_mut().enumerate() {
         let from = i / 4 + 1;
-        let to = if from == 256 { 1 } else { from + 1 };
+        let to = from % MOST_NODES + 1;
         *slot = Row::new(
             from,
             to,
@@ -105,9 +98,9 @@ pub fn ring(rt: &HostRuntime) -> io::Result<()> {
     try_from(
         rt,
         "ring of 256 nodes, 1024 arcs",
-        &ArcTable::new(256, 1024, &mut rows),
+        &ArcTable::new(MOST_NODES, MOST_ARCS, &mut rows),
         0,
-        &[0; 256],
+        &[0; MOST_NODES],
         FULL_BUDGET,
     )
 }
