@@ -1,17 +1,14 @@
 -- What is known where no stop keeps a plan from being opened.
-use Rattle.std.proofs.Common.{◌≡◌, ℕ, ◌≤◌, ◌&&◌, eqb, leb, List, length, ℤ, Some, None, Ok, Err, Result, sym, refl, ap, ◌∙◌, subst}
+use Rattle.std.proofs.Common.{◌≡◌, ℕ, ◌≤◌, ◌&&◌, eqb, leb, List, length, ℤ, None, sym, refl, ap, ◌∙◌}
 use Rattle.std.proofs.lemmas.Bool.{and_parts, eqb-true, leb-true}
 use Rattle.costs.specs.Kinds.{Kind}
-use Rattle.networks.specs.declared.stops.Stop.{Stop}
-use Rattle.networks.specs.Answers.{Told, unless}
 use Rattle.networks.specs.Nets.{Net, shown}
 use Rattle.networks.proofs.Shown.{length_shown}
-use Rattle.flows.specs.Flows.{imbalances_from}
 use Rattle.flows.specs.Fits.{Small}
 use Rattle.flows.specs.Stops.{counts_fit, lengths_fit, arcs_stop, open_stop}
 use Rattle.flows.proofs.Fitted.{passed, neither, small}
 use Rattle.flows.proofs.Needing.{imbalances_long}
-use Rattle.runs.specs.States.{State, opening_stop, opened, with_needs, New}
+use Rattle.runs.specs.States.{State, opening_stop, opened, New}
 
 pub record Opens {C : Type 0} (n : Net C) (flow : List ℤ) (needs : ℕ) : Type 0 where
   pub few_arcs : length n.arcs ≤ 1024
@@ -43,21 +40,3 @@ opened_new K p ok =
       fits = ap (λ k. open_stop K.size p.net p.tables.flow k (length p.tables.prices) (length p.tables.marks)) (imbalances_long (shown p.net) p.tables.flow 1 p.net.nodes ∙ sym n.needs_long) ∙ ok;
       needs_are = refl;
     }
-
--- what open leaves where it is granted, and where it is refused
-module _ {C : Type 0} (K : Kind C) (p : State C) where
-  pub open_leaves : (ns : List ℤ) → None ≡ opening_stop K p → ns ≡ imbalances_from 1 (length p.tables.needs) (shown p.net) p.tables.flow → with_needs p ns ≡ unless (opening_stop K p) p (opened p)
-  open_leaves ns ok is =
-      let n = opens K p.net p.tables.flow (length p.tables.needs) (length p.tables.prices) (length p.tables.marks) (sym ok) in
-      ap (with_needs p) (is ∙ ap (λ k. imbalances_from 1 k (shown p.net) p.tables.flow) n.needs_long) ∙ ap (λ s. unless s p (opened p)) ok
-
-  pub open_new : (ns : List ℤ) → None ≡ opening_stop K p → ns ≡ imbalances_from 1 (length p.tables.needs) (shown p.net) p.tables.flow → New K (with_needs p ns)
-  open_new ns ok is =
-      let n = opens K p.net p.tables.flow (length p.tables.needs) (length p.tables.prices) (length p.tables.marks) (sym ok) in
-      subst (λ xs. New K (with_needs p xs)) (sym (is ∙ ap (λ k. imbalances_from 1 k (shown p.net) p.tables.flow) n.needs_long)) (opened_new K p (sym ok))
-
-  pub open_refused : (s : Told) → Some s ≡ opening_stop K p → p ≡ unless (opening_stop K p) p (opened p)
-  open_refused s stop = ap (λ o. unless o p (opened p)) stop
-
-pub never_ok : (s : Stop) → ◌≡◌ {A = Result (Unit {0}) Stop} (Err s) (Ok tt) → ⊥
-never_ok s e = cc

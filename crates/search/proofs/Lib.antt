@@ -1,4 +1,3 @@
-pub mod Writes
 pub mod Largest
 pub mod Choosing
 pub mod Taming

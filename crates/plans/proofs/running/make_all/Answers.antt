@@ -2,11 +2,8 @@ use Rattle.std.proofs.Common.{◌≤◌, length, sym, subst, arith, rules}
 use Rattle.std.proofs.lemmas.List.{set-get_or}
 use Rattle.networks.specs.Nets.{IsAt}
 use Rattle.plans.specs.Lists.{MakesAll}
-use Rattle.plans.proofs.Making.{done_start, done_more, done_short, done_full, done_whole}
+use Rattle.plans.proofs.Making.{done_more, done_short, done_full, done_whole}
 use Rattle.plans.proofs.running.make_all.Goals as goal
-
-pub loop-i-init : goal.loop-i-init
-loop-i-init g c = done_start _ _ _ _ _ _
 
 pub returns-in_default : goal.returns-in_default
 returns-in_default g c =

@@ -3,18 +3,8 @@ use Rattle.networks.specs.Nets.{shown}
 use Rattle.labels.specs.Good.{node_at}
 use Rattle.labels.proofs.Trails.{sought_there}
 use Rattle.reach.specs.Scans.{Scanned}
-use Rattle.reach.proofs.Turning.{open_node, open_near, open_room, open_done}
+use Rattle.reach.proofs.Turning.{open_room, open_done}
 use Rattle.reach.proofs.rounds.advance.Goals as goal
-
-pub link-requires-clause-node : goal.link-requires-clause-node
-link-requires-clause-node g c =
-    let ripe = subst (Scanned g.N.Cost.CostKind.kind (shown (g.N.Network.meaning c.args.net.now)) c.args.flow.now c.args.prices.now c.args.chosen.arc c.args.labels.now _) c.in-Break.is c.look_round.ensures in
-    open_node c.requires.searching c.requires.few ripe c.arc.ensures.is
-
-pub link-requires-clause-near : goal.link-requires-clause-near
-link-requires-clause-near g c =
-    let ripe = subst (Scanned g.N.Cost.CostKind.kind (shown (g.N.Network.meaning c.args.net.now)) c.args.flow.now c.args.prices.now c.args.chosen.arc c.args.labels.now _) c.in-Break.is c.look_round.ensures in
-    open_near c.requires.searching c.requires.few ripe c.arc.ensures.is
 
 pub link-requires-clause-room : goal.link-requires-clause-room
 link-requires-clause-room g c =

@@ -8,17 +8,6 @@ use Rattle.search.proofs.AtHand.{at_hand}
 use Rattle.search.proofs.Marking.{cut_marked}
 use Rattle.search.proofs.attempts.attempt.Goals as goal
 
-pub returns-in_default : goal.returns-in_default
-returns-in_default g c = record {
-  ready = c.tame.ensures.ready;
-  eased = c.tame.ensures.eased;
-  ends = (refl, c.in_default.ensures, refl);
-  spends = ((λ e. absurd cc), (λ e. absurd cc));
-}
-
-pub begin-labels-requires : goal.begin-labels-requires
-begin-labels-requires g c = let want = c.in-Some.ensures in (want.sources.0, omega (arith, want.sources.1, c.requires.ready.few))
-
 pub reach-requires : goal.reach-requires
 reach-requires g c =
     let K = g.N.Cost.CostKind.kind in
@@ -70,9 +59,6 @@ returns-in-Err-Kilter g c =
       spends = ((λ e. absurd cc), (λ e. absurd cc));
     }
 
-pub mark-requires : goal.mark-requires
-mark-requires g c = omega (arith, c.requires.marks, c.requires.ready.few)
-
 pub returns-in-Err-Cut : goal.returns-in-Err-Cut
 returns-in-Err-Cut g c =
     let K = g.N.Cost.CostKind.kind in
@@ -87,18 +73,6 @@ returns-in-Err-Cut g c =
       eased = now.eased;
       ends = (refl, cut_marked K n.nodes (shown n) flow now.ready.fitting now.ready.long c.reach.new.labels c.mark.new.marks (c.mark.auto.marks ∙ c.requires.marks) c.mark.ensures step c.in-Some.ensures.chosen.moving.0 cut);
       spends = ((λ e. absurd cc), (λ e. absurd cc));
-    }
-
-pub lap-requires : goal.lap-requires
-lap-requires g c =
-    let n = g.N.Network.meaning c.args.net.now in
-    let now = searched g.N.Cost.CostKind.kind n.nodes (shown n) c.args.flow.now c.args.prices.now c.tame.new.prices c.reach.new.prices c.tame.ensures.ready c.tame.ensures.eased c.reach.ensures.prices in
-    let found = c.in-Ok.ensures.ends in
-    record {
-      searching = record { fitting = fits_prices now.ready; long = now.ready.long; good = found.good; wanted = found.wanted };
-      moderate = λ k h. omega (arith, now.ready.bounded k h);
-      small = now.ready.small;
-      reached = found.reached;
     }
 
 pub returns-else-not-may_lap : goal.returns-else-not-may_lap

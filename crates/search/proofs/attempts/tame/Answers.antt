@@ -1,15 +1,6 @@
-use Rattle.std.proofs.Common.{sym, subst, arith}
 use Rattle.networks.specs.Nets.{shown}
-use Rattle.flows.specs.Fits.{Fitting}
 use Rattle.search.proofs.Taming.{eased_same, tidied_tame, tidied_ready, tidied_eased}
 use Rattle.search.proofs.attempts.tame.Goals as goal
-
-pub tidy-requires : goal.tidy-requires
-tidy-requires g c = record {
-  few = omega (arith, c.requires.few, c.requires.priced);
-  fitting = subst (λ z. Fitting g.N.Cost.CostKind.kind z (shown (g.N.Network.meaning c.args.net.now))) (sym c.requires.priced) c.requires.fitting;
-  moderate = c.requires.bounded;
-}
 
 pub returns-then-any_large : goal.returns-then-any_large
 returns-then-any_large g c =

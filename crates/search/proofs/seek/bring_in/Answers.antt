@@ -1,22 +1,10 @@
-use Rattle.std.proofs.Common.{◌≡◌, ◌<◌, ◌≤◌, length, sym, refl, ap, ◌∙◌, subst, arith, rules}
+use Rattle.std.proofs.Common.{◌≡◌, ◌<◌, ◌≤◌, sym, refl, ◌∙◌, subst, arith}
 use Rattle.std.proofs.lemmas.Bool.{ltb-true, ltb-false}
 use Rattle.networks.specs.Nets.{shown}
 use Rattle.search.specs.Going.{LapAtHand, CutMarked}
 use Rattle.search.proofs.Steps.{going_lapped}
 use Rattle.search.proofs.Ending.{gone_on, gone_nowhere}
 use Rattle.search.proofs.seek.bring_in.Goals as goal
-
-pub loop-laps-init : goal.loop-laps-init
-loop-laps-init g c = (c.requires.ready, c.requires.spent, refl, refl, λ found h. h)
-
-pub attempt-requires : goal.attempt-requires
-attempt-requires g c = record { ready = c.loop-laps.invariant.0; arc = omega (arith, c.loop-laps.invariant.3, c.requires.arc); marks = ap length c.loop-laps.invariant.2 ∙ c.requires.marks }
-
-pub overflow_add-laps : goal.overflow_add-laps
-overflow_add-laps g c = let h : c.loop-laps.laps < c.args.budget = ltb-true _ _ (c.in-Lapped.ensures.spends.0 refl) in let k = c.ranges.budget in search rules
-
-pub loop-laps-smaller : goal.loop-laps-smaller
-loop-laps-smaller g c = let h : c.loop-laps.laps < c.args.budget = ltb-true _ _ (c.in-Lapped.ensures.spends.0 refl) in omega arith
 
 pub loop-laps-preserved : goal.loop-laps-preserved
 loop-laps-preserved g c =
