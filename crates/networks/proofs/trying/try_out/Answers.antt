@@ -1,17 +1,9 @@
-use Rattle.std.proofs.Common.{◌≡◌, Ok, Err, ap, ◌∙◌}
-use Rattle.std.proofs.lemmas.Result.{err_from_is_err_and}
+use Rattle.std.proofs.Common.{◌≡◌, Ok, ap, ◌∙◌}
 use Rattle.networks.specs.Answers.{refusal}
-use Rattle.networks.proofs.Back.{stopped, as_before, handed}
+use Rattle.networks.proofs.Back.{as_before, handed}
 use Rattle.networks.proofs.trying.try_out.Given as given
 use Rattle.networks.proofs.trying.try_out.Goals as goal
 use Rattle.networks.proofs.trying.try_out.Goals.{After-hand_back}
-
-pub returns-in_err-tag : goal.returns-in_err-tag
-returns-in_err-tag g c =
-    let h = c.in_err-tag.ensures in
-    let p = err_from_is_err_and c.from_residual.result c.from_residual.ensures.1 in
-    let r = stopped (g.N.Network.meaning c.args.net.now) (g.N.Network.meaning c.take_out.new.self) c.args.layer c.args.a _ h.answers h.leaves in
-    record { answers = ap refusal (p.1 ∙ ap Err p.2) ∙ r.0; same = r.1 }
 
 -- the tag that was just given is never refused
 granted : (g : given.Over) (c : After-hand_back g) → c.hand_back.result ≡ Ok tt
