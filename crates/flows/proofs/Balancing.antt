@@ -4,7 +4,7 @@ use Rattle.std.proofs.lemmas.Int.{ints}
 use Rattle.networks.specs.declared.network.Arc.{Arc}
 use Rattle.networks.specs.Limits.{flow_limit}
 use Rattle.flows.specs.Flows.{imbalance, leaving, entering, sum_arcs}
-use Rattle.flows.specs.Fits.{Small}
+use Rattle.flows.specs.searching.Fits.{Small}
 use Rattle.flows.proofs.Turns.{over_none}
 
 joined : (s x y p q r : ℤ) → r ≡ s +ℤ (x -ℤ y) → s +ℤ ((x +ℤ p) -ℤ (y +ℤ q)) ≡ r +ℤ (p -ℤ q)

@@ -6,6 +6,7 @@ use Rattle.std.proofs.ByRecursion.{All-weaker}
 use Rattle.networks.specs.declared.network.Arc.{Arc}
 use Rattle.flows.specs.Flows.{sum_arcs, leaving, entering, imbalance, EachArc, Within, Ends, Meets}
 use Rattle.networks.specs.Nets.{IsAt}
+use Rattle.flows.specs.searching.Ways.{Stuck, Strained}
 use Rattle.flows.specs.Cuts.{can_leave, must_enter, needed_from, Cut, CutShowsNone}
 use Rattle.flows.proofs.ArcSums.{integers, worth, worth_add, worth_same, gathered}
 
@@ -77,33 +78,25 @@ module _ {C : Type 0} (inside : ℕ → Bool) where
       ins_are : worth (pos 0) ◌+ℤ◌ if_inside 1 (length needs) inside (λ n. sum_arcs (entering n) arcs fs) ≡ ins arcs fs
       ins_are = gathered integers if_inside if_inside_zero if_inside_add inside (λ a. a.to) (length needs) arcs fs (All-weaker (Ends (length needs)) (λ a. (1 ≤ a.to) × (a.to ≤ length needs)) (λ a e. (e.2, e.3)) arcs ends)
 
-  -- the arc carries no less than hi out of the nodes inside, no more than lo into them
-  abbrev pub Stuck : Arc C → ℤ → Type 0
-  Stuck a f = (inside a.from ≡ true → inside a.to ≡ false → a.hi ≤ℤ f) × (inside a.from ≡ false → inside a.to ≡ true → f ≤ℤ a.lo)
-
-  -- more than hi, or less than lo
-  abbrev pub Strained : Arc C → ℤ → Type 0
-  Strained a f = ((inside a.from ≡ true) × (inside a.to ≡ false) × (a.hi <ℤ f)) ⊎ ((inside a.from ≡ false) × (inside a.to ≡ true) × (f <ℤ a.lo))
-
-  all_full : (arcs : List (Arc C)) (fs : List ℤ) → EachArc Stuck arcs fs → (can_leave inside arcs -ℤ must_enter inside arcs) ≤ℤ (outs arcs fs -ℤ ins arcs fs)
+  all_full : (arcs : List (Arc C)) (fs : List ℤ) → EachArc (Stuck inside) arcs fs → (can_leave inside arcs -ℤ must_enter inside arcs) ≤ℤ (outs arcs fs -ℤ ins arcs fs)
   all_full [] [] s = record { le = tt }
   all_full [] (f ∷ fs) s = absurd s
   all_full (a ∷ rest) [] s = absurd s
   all_full (a ∷ rest) (f ∷ fs) (s, ss) =
       full (inside a.from) (inside a.to) a.lo a.hi f (outs rest fs) (ins rest fs) (can_leave inside rest) (must_enter inside rest) s (all_full rest fs ss)
 
-  overfull : (arcs : List (Arc C)) (fs : List ℤ) (n : ℕ) (b : Arc C) → EachArc Stuck arcs fs → IsAt arcs n b → Strained b (get_or fs n (pos 0)) →
+  overfull : (arcs : List (Arc C)) (fs : List ℤ) (n : ℕ) (b : Arc C) → EachArc (Stuck inside) arcs fs → IsAt arcs n b → Strained inside b (get_or fs n (pos 0)) →
       (can_leave inside arcs -ℤ must_enter inside arcs) <ℤ (outs arcs fs -ℤ ins arcs fs)
   overfull [] fs n b s (l, e) t = absurd (omega arith)
   overfull (a ∷ rest) [] n b s at t = absurd s
   overfull (a ∷ rest) (f ∷ fs) zero b (s, ss) (l, e) t =
-      strained (inside a.from) (inside a.to) a.lo a.hi f (outs rest fs) (ins rest fs) (can_leave inside rest) (must_enter inside rest) (subst (λ z. Strained z f) e t) (all_full rest fs ss)
+      strained (inside a.from) (inside a.to) a.lo a.hi f (outs rest fs) (ins rest fs) (can_leave inside rest) (must_enter inside rest) (subst (λ z. Strained inside z f) e t) (all_full rest fs ss)
   overfull (a ∷ rest) (f ∷ fs) (suc n) b (s, ss) (l, e) t =
       fuller (inside a.from) (inside a.to) a.lo a.hi f (outs rest fs) (ins rest fs) (can_leave inside rest) (must_enter inside rest) s (overfull rest fs n b ss (omega arith, e) t)
 
   -- nodes that nothing more can leave and nothing less can enter, with one arc strained, are a cut
   pub cut_found : (arcs : List (Arc C)) (needs : List ℤ) (fs : List ℤ) (n : ℕ) (b : Arc C) → AllByRecursion (Ends (length needs)) arcs → Meets arcs needs fs →
-      EachArc Stuck arcs fs → IsAt arcs n b → Strained b (get_or fs n (pos 0)) → Cut arcs needs inside
+      EachArc (Stuck inside) arcs fs → IsAt arcs n b → Strained inside b (get_or fs n (pos 0)) → Cut arcs needs inside
   cut_found arcs needs fs n b ends meets stuck at amiss =
       moved (needed_from 1 inside needs) (outs arcs fs) (ins arcs fs) (can_leave inside arcs -ℤ must_enter inside arcs) (needs_are arcs needs ends fs meets) (overfull arcs fs n b stuck at amiss)
     where

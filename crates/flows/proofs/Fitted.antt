@@ -9,7 +9,7 @@ use Rattle.networks.specs.declared.network.Arc.{Arc}
 use Rattle.networks.specs.Limits.{flow_limit}
 use Rattle.networks.specs.Answers.{Told}
 use Rattle.networks.specs.Nets.{Net, shown}
-use Rattle.flows.specs.Fits.{Fit, Fitting, Small}
+use Rattle.flows.specs.searching.Fits.{Fit, Fitting, Small}
 use Rattle.flows.specs.Stops.{stop_unless, or_else, counts_fit, lengths_fit, ends_fit, arc_stop, arcs_stop, needs_stop, first_stop}
 
 -- a test that stopped nothing was passed; and neither of two stops came where none is the first

@@ -6,7 +6,7 @@ use Rattle.costs.specs.Kinds.{Kind, Laws, minus}
 use Rattle.networks.specs.declared.network.Arc.{Arc}
 use Rattle.flows.specs.Flows.{Ends}
 use Rattle.flows.specs.Kilter.{reduced, largest}
-use Rattle.flows.specs.Prices.{Raised, SignKept, nearer}
+use Rattle.flows.specs.searching.Prices.{Raised, SignKept, nearer}
 use Rattle.flows.proofs.Group.{comm, left, right, swap, back, cancel, cancel_le, le_refl, neg_down, neg_up}
 use Rattle.flows.proofs.Prices.{by_ends, sign_same}
 

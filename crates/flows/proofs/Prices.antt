@@ -5,7 +5,7 @@ use Rattle.costs.specs.Kinds.{Kind, Laws, minus}
 use Rattle.networks.specs.declared.network.Arc.{Arc}
 use Rattle.flows.specs.Flows.{EachArc, Ends}
 use Rattle.flows.specs.Kilter.{price, reduced, kilter_number, kilter_sum}
-use Rattle.flows.specs.Prices.{Raised, SignKept, KeptSignsEase}
+use Rattle.flows.specs.searching.Prices.{Raised, SignKept, KeptSignsEase}
 use Rattle.flows.proofs.Group.{assoc, comm, left, right, right_comm, back, cancel, cancel_le, add_le, le_refl, below, above}
 use Rattle.flows.proofs.Numbers.{leaving_repriced, entering_repriced, signs_repriced}
 

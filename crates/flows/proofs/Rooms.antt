@@ -10,6 +10,7 @@ use Rattle.flows.specs.declared.steps.Step.{Step}
 use Rattle.flows.specs.Flows.{total, outside, excess}
 use Rattle.flows.specs.Kilter.{price, reduced, kilter_number, kilter_sum}
 use Rattle.networks.specs.Nets.{IsAt}
+use Rattle.flows.specs.searching.Ways.{Amiss}
 use Rattle.flows.specs.Laps.{near, far, Leads, first, Chain, Apart, moved, sent, Better}
 use Rattle.flows.proofs.Group.{assoc, comm, left, left_comm, swap, cancel, cancel_le, cancel_less, le_refl, add_le, below, times_zero, times_one, times_add, times_plus, times_minus, times_cancel, times_up, times_down}
 use Rattle.flows.proofs.ArcSums.{naturals, costs, over_set}
@@ -29,10 +30,6 @@ HasRoom {C} K ps arcs x fs s = (a : Arc C) → IsAt arcs s.arc a → Room K ps a
 abbrev pub Roomy : {C : Type 0} → Kind C → List C → List (Arc C) → ℤ → List Step → List ℤ → Type 0
 Roomy K ps arcs x [] fs = Unit {0}
 Roomy K ps arcs x (s ∷ rest) fs = HasRoom K ps arcs x fs s × Roomy K ps arcs x rest (set fs s.arc (moved x s fs))
-
--- the arc is out of kilter that way: it wants to gain, or to lose
-abbrev pub Amiss : {C : Type 0} → Kind C → List C → Arc C → Bool → ℤ → Type 0
-Amiss K ps a along f = (along ≡ true → (f <ℤ a.lo) ⊎ (K.le K.zero (reduced K ps a) ≡ false)) × (along ≡ false → (a.hi <ℤ f) ⊎ (K.le (reduced K ps a) K.zero ≡ false))
 
 module _ {C : Type 0} (K : Kind C) (ps : List C) (arcs : List (Arc C)) where
   kept_room : (x : ℤ) (fs : List ℤ) (i : ℕ) (y : ℤ) (steps : List Step) → AllByRecursion (λ j. ¬ (i ≡ j)) (map (λ s. s.arc) steps) → AllByRecursion (HasRoom K ps arcs x fs) steps → AllByRecursion (HasRoom K ps arcs x (set fs i y)) steps

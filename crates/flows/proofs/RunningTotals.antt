@@ -9,7 +9,7 @@ use Rattle.std.specs.List.{FoldsTo}
 use denote.Ref.{Bor}
 use Rattle.costs.specs.Kinds.{Kind, Sums, Laws, sums, answered, size_limit}
 use Rattle.networks.specs.declared.network.Arc.{Arc}
-use Rattle.flows.specs.Fits.{Fitting, Small}
+use Rattle.flows.specs.searching.Fits.{Fitting, Small}
 use Rattle.flows.specs.Flows.{total, and_then, added, running_total}
 use Rattle.flows.proofs.Group.{assoc, left, right, size_zero}
 use Rattle.flows.proofs.Totalling.{size_multiple}

@@ -3,7 +3,7 @@
 use Rattle.std.proofs.Common.{◌≡◌, ℕ, ◌+◌, ◌≤◌, Bool, true, false, cond, List, sym, refl, ap, ◌∙◌, subst, arith}
 use Rattle.costs.specs.Kinds.{Kind, Laws, minus}
 use Rattle.flows.specs.Kilter.{price}
-use Rattle.flows.specs.Prices.{Raised, SmallInside}
+use Rattle.flows.specs.searching.Prices.{Raised, SmallInside}
 use Rattle.flows.proofs.Group.{assoc, comm, right, back, cancel, size_minus}
 
 -- the prices of the nodes of 1 to N that are not inside are the old ones with d added

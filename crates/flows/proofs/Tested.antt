@@ -5,14 +5,19 @@ use borrow.Author.Differences.{ints}
 use Rattle.std.specs.List.{AllByRecursion}
 use Rattle.std.proofs.lemmas.Bool.{leb-true, cases_eq}
 use Rattle.costs.specs.Kinds.{Kind, Laws, sums}
+use Rattle.costs.specs.Models.{plain_kind, two_tier_kind}
+use Rattle.costs.specs.PlainLaws.{plain_laws}
+use Rattle.costs.specs.TwoTierLaws.{two_tier_laws}
 use Rattle.networks.specs.declared.network.Arc.{Arc}
 use Rattle.flows.specs.Flows.{imbalance, imbalances_from, total, EachArc, Ends}
 use Rattle.flows.specs.Kilter.{reduced, out_of_kilter, InKilter}
 use Rattle.flows.specs.Cuts.{can_leave, must_enter, needed_from, marked}
+use Rattle.flows.specs.declared.figures.Case.{Case}
+use Rattle.flows.specs.declared.figures.Case.TheVariants.{InUnits, InTiers}
 use Rattle.flows.specs.declared.figures.Figure.{Figure}
 use Rattle.flows.specs.declared.figures.Verdict.{Verdict}
 use Rattle.flows.specs.declared.figures.Verdict.TheVariants.{LeastFlow, NoFlow}
-use Rattle.flows.specs.Figures.{RightFlow, RightCut, RightVerdict, Right, AllRight}
+use Rattle.flows.specs.Figures.{RightFlow, RightCut, RightVerdict, Right, RightCase, AllRight}
 use Rattle.flows.specs.Stops.{ends_fit}
 use Rattle.flows.proofs.Fitted.{ends_hold}
 use Rattle.flows.proofs.Needing.{imbalances_long, imbalances_meet}
@@ -94,6 +99,17 @@ module _ {C : Type 0} where
     abbrev passes : Figure C → Bool
     passes x = verdict_passes x.nodes x.arcs.now x.opened.now x.verdict
 
-    -- a table whose figures all pass
-    pub all_right : Laws K → (figures : List (Figure C)) → all passes figures ≡ true → AllRight K figures
-    all_right laws figures e = record { right = all_pass passes (Right K) (λ x h. verdict_is_right laws x.nodes x.arcs.now x.opened.now x.verdict h) figures e }
+    pub is_right : Laws K → (x : Figure C) → passes x ≡ true → Right K x
+    is_right laws x e = verdict_is_right laws x.nodes x.arcs.now x.opened.now x.verdict e
+
+abbrev case_passes : Case → Bool
+case_passes (InUnits x) = passes plain_kind x
+case_passes (InTiers x) = passes two_tier_kind x
+
+case_is_right : (x : Case) → case_passes x ≡ true → RightCase x
+case_is_right (InUnits x) e = is_right plain_kind plain_laws x e
+case_is_right (InTiers x) e = is_right two_tier_kind two_tier_laws x e
+
+-- a list whose cases all pass
+pub all_right : (cases : List Case) → all case_passes cases ≡ true → AllRight cases
+all_right cases e = record { right = all_pass case_passes RightCase case_is_right cases e }

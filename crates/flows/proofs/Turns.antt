@@ -1,5 +1,5 @@
 -- Arcs in turn: the next one is the first of those left.
-use Rattle.std.proofs.Common.{◌≡◌, ℕ, suc, ◌+◌, ◌<◌, ◌≤◌, true, ◌⊎◌, List, [], ◌∷◌, length, get_or, drop, ℤ, pos, nat_abs, Some, None, Option, sym, refl, ap, ◌∙◌, subst, inl, inr, arith}
+use Rattle.std.proofs.Common.{◌≡◌, ℕ, ◌+◌, ◌<◌, true, ◌⊎◌, List, [], ◌∷◌, length, drop, ℤ, Some, None, Option, sym, refl, ap, ◌∙◌, subst, inl, inr, arith}
 use Rattle.std.specs.Prelude.{MatchOption}
 use Rattle.std.specs.Option.{is_some}
 use Rattle.std.specs.Iterator.{Yields, YieldsFirst}
@@ -7,9 +7,7 @@ use Rattle.std.specs.List.{AllByRecursion, FoldsTo}
 use Rattle.networks.specs.declared.network.Arc.{Arc}
 use Rattle.networks.specs.Nets.{Net, arc_at, shown}
 use Rattle.networks.proofs.Shown.{never_absent, arc_first}
-use Rattle.networks.specs.Limits.{flow_limit}
 use Rattle.flows.specs.Flows.{over}
-use Rattle.flows.specs.Fits.{Small}
 
 pub next_first : {C : Type 0} (n : Net C) (i : ℕ) (r : Option (Arc C)) → i < length n.arcs → r ≡ arc_at n (i + 1) →
     MatchOption r ((drop i (shown n) ≡ []) × (drop (i + 1) (shown n) ≡ [])) (λ x. drop i (shown n) ≡ x ∷ drop (i + 1) (shown n))
@@ -35,10 +33,6 @@ over_none none plus h = at_none (over none plus h) none (λ fs. refl) (λ x xs. 
 pub none_left : {A B X : Type 0} {P : A → Type 0} {Q : B → Type 0} (arcs : List X) (flow : List ℤ) → ((a : A) × ((arcs ≡ []) × P a)) ⊎ ((b : B) × ((length flow ≡ 0) × Q b)) → (arcs ≡ []) ⊎ (length flow ≡ 0)
 none_left arcs flow (inl (a, e)) = inl e.0
 none_left arcs flow (inr (b, e)) = inr e.0
-
--- the flows after the first are within the limits too
-pub small_rest : {flow fs : List ℤ} {f : ℤ} → flow ≡ f ∷ fs → Small flow → Small fs
-small_rest {flow} {fs} {f} e small i = subst (λ xs. nat_abs (get_or xs (suc i) (pos 0)) ≤ flow_limit) e (small (suc i))
 
 -- what holds of all items holds of those that are left
 pub left_all : {S X : Type 0} (left : S → List X) (P : X → Type 0) (xs : List X) (s t : S) → Yields (YieldsFirst left) s xs t → AllByRecursion P (left s) → AllByRecursion P (left t)

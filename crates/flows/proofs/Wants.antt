@@ -7,7 +7,7 @@ use Rattle.flows.specs.Flows.{Within}
 use Rattle.flows.specs.Kilter.{reduced, out_of_kilter, kilter_number}
 use Rattle.flows.proofs.Group.{le_refl}
 use Rattle.flows.proofs.Numbers.{number_zero, zero_number}
-use Rattle.flows.proofs.Rooms.{Amiss}
+use Rattle.flows.specs.searching.Ways.{Amiss}
 
 -- it wants to gain: flow < lo, or c < 0 with flow < hi
 abbrev pub WantsMore : {C : Type 0} → Kind C → C → Arc C → ℤ → Type 0

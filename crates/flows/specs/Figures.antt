@@ -2,7 +2,10 @@
 use Rattle.std.specs.Prelude.{◌≡◌, ℕ, List, ℤ}
 use Rattle.std.specs.List.{AllByRecursion}
 use Rattle.costs.specs.Kinds.{Kind, sums}
+use Rattle.costs.specs.Models.{plain_kind, two_tier_kind}
 use Rattle.networks.specs.declared.network.Arc.{Arc}
+use Rattle.flows.specs.declared.figures.Case.{Case}
+use Rattle.flows.specs.declared.figures.Case.TheVariants.{InUnits, InTiers}
 use Rattle.flows.specs.declared.figures.Figure.{Figure}
 use Rattle.flows.specs.declared.figures.Verdict.{Verdict}
 use Rattle.flows.specs.declared.figures.Verdict.TheVariants.{LeastFlow, NoFlow}
@@ -23,6 +26,7 @@ pub record RightCut {C : Type 0} (N : ℕ) (arcs : List (Arc C)) (opened : List 
   pub cut : MarksCut arcs (imbalances_from 1 N arcs opened) marks
   pub is_none : (flow : List ℤ) → EachArc Within arcs flow → SameImbalances N arcs opened flow → ⊥
 
+-- what the verdict says is so
 abbrev pub RightVerdict : {C : Type 0} → Kind C → ℕ → List (Arc C) → List ℤ → Verdict C → Type 0
 RightVerdict K N arcs opened (LeastFlow flow cost prices) = RightFlow K N arcs opened flow.now cost prices.now
 RightVerdict K N arcs opened (NoFlow marks) = RightCut N arcs opened marks.now
@@ -31,6 +35,11 @@ RightVerdict K N arcs opened (NoFlow marks) = RightCut N arcs opened marks.now
 abbrev pub Right : {C : Type 0} → Kind C → Figure C → Type 0
 Right K x = RightVerdict K x.nodes x.arcs.now x.opened.now x.verdict
 
--- every figure of a table is right
-pub record AllRight {C : Type 0} (K : Kind C) (figures : List (Figure C)) : Type 0 where
-  pub right : AllByRecursion (Right K) figures
+-- the case is right, by its kind of costs
+abbrev pub RightCase : Case → Type 0
+RightCase (InUnits x) = Right plain_kind x
+RightCase (InTiers x) = Right two_tier_kind x
+
+-- every case of a list is right
+pub record AllRight (cases : List Case) : Type 0 where
+  pub right : AllByRecursion RightCase cases

@@ -10,6 +10,7 @@ over none plus h [] fs = none
 over none plus h (a ∷ rest) [] = none
 over none plus h (a ∷ rest) (f ∷ fs) = plus (h a f) (over none plus h rest fs)
 
+-- whole numbers, one for each arc and its flow, added up
 abbrev pub sum_arcs : {C : Type 0} → (Arc C → ℤ → ℤ) → List (Arc C) → List ℤ → ℤ
 sum_arcs h arcs flow = over (pos 0) ◌+ℤ◌ h arcs flow
 
@@ -20,10 +21,11 @@ EachArc P [] (f ∷ fs) = ⊥
 EachArc P (a ∷ rest) [] = ⊥
 EachArc P (a ∷ rest) (f ∷ fs) = P a f × EachArc P rest fs
 
--- the flow of an arc that leaves node n, or that enters it
+-- the flow of an arc that leaves node n, else zero
 abbrev pub leaving : {C : Type 0} → ℕ → Arc C → ℤ → ℤ
 leaving n a f = cond (a.from == n) f (pos 0)
 
+-- the flow of an arc that enters node n, else zero
 abbrev pub entering : {C : Type 0} → ℕ → Arc C → ℤ → ℤ
 entering n a f = cond (a.to == n) f (pos 0)
 
@@ -71,9 +73,9 @@ Within a f = (a.lo ≤ℤ f) × (f ≤ℤ a.hi)
 abbrev pub outside_of : ℤ → ℤ → ℤ → ℕ
 outside_of lo hi f = cond (int_lt f lo) (unsigned_abs (lo -ℤ f)) (cond (int_lt hi f) (unsigned_abs (f -ℤ hi)) 0)
 
--- its distance outside the bounds
+-- the distance of an arc's flow outside its bounds
 abbrev pub outside : {C : Type 0} → Arc C → ℤ → ℕ
-outside a f = cond (int_lt f a.lo) (unsigned_abs (a.lo -ℤ f)) (cond (int_lt a.hi f) (unsigned_abs (f -ℤ a.hi)) 0)
+outside a f = outside_of a.lo a.hi f
 
 -- these distances, added up
 abbrev pub excess : {C : Type 0} → List (Arc C) → List ℤ → ℕ

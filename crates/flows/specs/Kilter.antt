@@ -22,6 +22,7 @@ out_of_kilter K c a f = int_lt f a.lo || (int_lt a.hi f || ((less K c K.zero && 
 abbrev pub way : {C : Type 0} → Kind C → C → Arc C → ℤ → Option Bool
 way K c a f = cond (int_lt f a.lo) (Some true) (cond (int_lt a.hi f) (Some false) (cond (less K c K.zero && int_lt f a.hi) (Some true) (cond (less K K.zero c && int_lt a.lo f) (Some false) None)))
 
+-- at these prices it is not out of kilter
 abbrev pub InKilter : {C : Type 0} → Kind C → List C → Arc C → ℤ → Type 0
 InKilter K prices a f = out_of_kilter K (reduced K prices a) a f ≡ false
 

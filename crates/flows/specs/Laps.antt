@@ -7,10 +7,11 @@ use Rattle.networks.specs.Nets.{IsAt}
 use Rattle.flows.specs.declared.steps.Step.{Step}
 use Rattle.flows.specs.Flows.{total, imbalance, excess}
 
--- where a step over the arc sets out, and where it leads
+-- the node from which a step over the arc sets out
 abbrev pub near : {C : Type 0} → Arc C → Bool → ℕ
 near a along = cond along a.from a.to
 
+-- the node to which it leads
 abbrev pub far : {C : Type 0} → Arc C → Bool → ℕ
 far a along = cond along a.to a.from
 

@@ -2,9 +2,7 @@ pub mod Flows
 pub mod Kilter
 pub mod Laps
 pub mod Cuts
-pub mod Prices
 pub mod Settles
 pub mod Stops
-pub mod Fits
 pub mod Figures
-pub mod Views
+pub mod searching

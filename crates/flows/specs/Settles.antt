@@ -43,6 +43,7 @@ pub record NoneLeft {C : Type 0} (arcs : List (Arc C)) (found left : Tables C) :
   pub as_found : left.flow ≡ found.flow
   pub cut : MarksCut arcs found.needs left.marks
 
+-- what is owed for the answer given
 abbrev pub Answers : {C : Type 0} → Kind C → ℕ → List (Arc C) → ℕ → Tables C → Answered C → Tables C → Type 0
 Answers K N arcs budget found (least cost laps) left = LeastLeft K arcs budget found cost laps left
 Answers K N arcs budget found (paused laps) left = PausedLeft K N arcs budget found laps left

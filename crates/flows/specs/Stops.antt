@@ -48,9 +48,7 @@ checks_stop size n long flow after =
 -- the first stop of a network with its tables, of prices and marks the lengths
 abbrev pub first_stop : {C : Type 0} → (C → ℕ) → Net C → List ℤ → List ℤ → ℕ → ℕ → Option Told
 first_stop size n flow needs prices marks =
-    stop_unless (counts_fit n.nodes (length n.arcs)) 1 0 (
-    stop_unless (lengths_fit n.nodes (length n.arcs) (length flow) (length needs) prices marks) 2 0 (
-    or_else (arcs_stop size n.nodes 1 (shown n) flow) (needs_stop (shown n) flow 1 needs)))
+    checks_stop size n (lengths_fit n.nodes (length n.arcs) (length flow) (length needs) prices marks) flow (needs_stop (shown n) flow 1 needs)
 
 -- the first stop where a plan is opened: its needs are yet to be written, so of them too the length alone
 abbrev pub open_stop : {C : Type 0} → (C → ℕ) → Net C → List ℤ → ℕ → ℕ → ℕ → Option Told

@@ -3,7 +3,7 @@
 ghost use Rattle.std.specs.Prelude.{◌≡◌, ℕ, ◌+◌, ◌≤◌, length, pos, ◌+ℤ◌, ◌-ℤ◌, if◌then◌else◌, nat_eq, unsigned_abs};
 ghost use Rattle.networks.specs.Limits.{most_arcs};
 ghost use Rattle.networks.specs.Nets.{shown};
-ghost use Rattle.flows.specs.Fits.{Small};
+ghost use Rattle.flows.specs.searching.Fits.{Small};
 ghost use Rattle.flows.specs.Flows.{imbalance as imbalance_of, imbalances_from};
 
 use crate::arcs::arcs_of;

@@ -1,7 +1,6 @@
 // Worked figures: small networks, the flow that each is opened at, and what the rules say of it. Each
 // figure is proved right where it stands in its table; a figure is added by adding it there.
 
-ghost use Rattle.costs.specs.Models.{plain_kind, two_tier_kind};
 ghost use Rattle.flows.specs.Figures.{AllRight};
 
 use costs::{Plain, TwoTier};
@@ -28,6 +27,13 @@ pub struct Figure<'a, C> {
     pub arcs: &'a [Arc<C>],
     pub opened: &'a [i32],
     pub verdict: Verdict<'a, C>,
+}
+
+// A case: a figure with costs of one kind or of the other.
+#[derive(Drop)]
+pub enum Case<'a> {
+    InUnits(Figure<'a, Plain>),
+    InTiers(Figure<'a, TwoTier>),
 }
 
 macro_rules! arc {
@@ -78,7 +84,7 @@ macro_rules! none {
 // From 1 to 2 to 3, from 1 to 3 by at most `most`, and just `back` from 3 to 1.
 macro_rules! triangle {
     ($most:expr, $back:expr, $verdict:expr) => {
-        Figure {
+        Case::InUnits(Figure {
             nodes: 3,
             arcs: &[
                 plain!(1, 2, 0, 5, 2),
@@ -88,31 +94,31 @@ macro_rules! triangle {
             ],
             opened: &[0, 0, 0, 0],
             verdict: $verdict,
-        }
+        })
     };
 }
 
 // One node with a loop.
 macro_rules! ring {
     ($cost:expr, $verdict:expr) => {
-        Figure {
+        Case::InUnits(Figure {
             nodes: 1,
             arcs: &[plain!(1, 1, -2, 3, $cost)],
             opened: &[0],
             verdict: $verdict,
-        }
+        })
     };
 }
 
 // Two nodes with one arc, opened at some flow.
 macro_rules! line {
     ($opened:expr, $verdict:expr) => {
-        Figure {
+        Case::InUnits(Figure {
             nodes: 2,
             arcs: &[plain!(1, 2, 0, 5, 1)],
             opened: &[$opened],
             verdict: $verdict,
-        }
+        })
     };
 }
 
@@ -120,7 +126,7 @@ macro_rules! line {
 // next hour and at the end to the first.
 macro_rules! hours {
     ($mains:expr, $verdict:expr) => {
-        Figure {
+        Case::InUnits(Figure {
             nodes: 3,
             arcs: &[
                 plain!(3, 1, 0, 8, 0),
@@ -136,13 +142,13 @@ macro_rules! hours {
             ],
             opened: &[0, 0, 0, 0, 0, 0, 0, 0, 0, 0],
             verdict: $verdict,
-        }
+        })
     };
 }
 
-// The figures with plain costs: every one is right.
-pub fn plain_figures() -> [Figure<'static, Plain>; 11]
-    ensures { AllRight plain_kind result }
+// The worked figures: every one is right.
+pub fn worked_figures() -> [Case<'static>; 12]
+    ensures { AllRight result }
 {
     [
         triangle!(4, 6, least!([5, 5, 1, 6], 19, [0, 2, 4])),
@@ -154,7 +160,7 @@ pub fn plain_figures() -> [Figure<'static, Plain>; 11]
         line!(3, least!([3], 3, [0, 1])),
         line!(6, none!(1, 0)),
         // An arc closed by a supply, a demand and a return that pays 10 a unit.
-        Figure {
+        Case::InUnits(Figure {
             nodes: 4,
             arcs: &[
                 plain!(1, 2, 0, 5, 1),
@@ -164,28 +170,23 @@ pub fn plain_figures() -> [Figure<'static, Plain>; 11]
             ],
             opened: &[0, 0, 0, 0],
             verdict: least!([4, 4, 4, 4], -36, [0, 1, 10, 0]),
-        },
+        }),
         hours!(3, least!([5, 0, 0, 2, 4, 0, 3, 0, 6, 1], 15, [0, 5, 0])),
         hours!(2, none!(1, 0, 1)),
+        // Two arcs of two tiers: the second is dearer in the second tier, and cheaper in the first.
+        Case::InTiers(Figure {
+            nodes: 2,
+            arcs: &[
+                arc!(1, 2, 0, 5, tiers!(1, 0)),
+                arc!(1, 2, 0, 5, tiers!(0, 9)),
+                arc!(2, 1, 3, 3, tiers!(0, 0)),
+            ],
+            opened: &[0, 0, 0],
+            verdict: Verdict::LeastFlow {
+                flow: &[0, 3, 3],
+                total: tiers!(0, 27),
+                prices: &[tiers!(0, 0), tiers!(0, 9)],
+            },
+        }),
     ]
-}
-
-// The figures with two tiers of costs: every one is right.
-pub fn two_tier_figures() -> [Figure<'static, TwoTier>; 1]
-    ensures { AllRight two_tier_kind result }
-{
-    [Figure {
-        nodes: 2,
-        arcs: &[
-            arc!(1, 2, 0, 5, tiers!(1, 0)),
-            arc!(1, 2, 0, 5, tiers!(0, 9)),
-            arc!(2, 1, 3, 3, tiers!(0, 0)),
-        ],
-        opened: &[0, 0, 0],
-        verdict: Verdict::LeastFlow {
-            flow: &[0, 3, 3],
-            total: tiers!(0, 27),
-            prices: &[tiers!(0, 0), tiers!(0, 9)],
-        },
-    }]
 }

@@ -24,7 +24,7 @@ mod views;
 
 pub use arcs::{Arcs, arcs_of};
 pub use balances::{imbalance, imbalances};
-pub use figures::{Figure, Verdict, plain_figures, two_tier_figures};
+pub use figures::{Case, Figure, Verdict, worked_figures};
 pub use kilter::amiss;
 pub use outside::distance;
 pub use pricing::{opposite, price_at, raise, reduced, sum};
@@ -34,5 +34,5 @@ pub use theorems::{
     cut_shows_none, kept_signs_ease, kilter_is_least, kilter_sum_is_limited, kilter_sum_tells,
     laps_keep_imbalances,
 };
-pub use totals::{checked_total, total};
+pub use totals::total;
 pub use views::{Seen, View};

@@ -2,9 +2,9 @@
 
 ghost use Rattle.std.specs.Prelude.{◌≡◌, ℕ, ◌+◌, ◌<◌, ◌≤◌, Bool, length};
 ghost use Rattle.costs.specs.Kinds.{size_limit};
-ghost use Rattle.flows.specs.Fits.{Fit, Bounded, price_limit, change_limit};
+ghost use Rattle.flows.specs.searching.Fits.{Fit, Bounded, price_limit, change_limit};
 ghost use Rattle.flows.specs.Kilter.{price, reduced as reduced_at};
-ghost use Rattle.flows.specs.Prices.{Tells, Raised};
+ghost use Rattle.flows.specs.searching.Prices.{Tells, Raised};
 
 use costs::CostKind;
 use networks::Arc;

@@ -3,7 +3,7 @@
 ghost use Rattle.flows.specs.Kilter.{KilterIsLeast, KilterSumIsLimited, KilterSumTells};
 ghost use Rattle.flows.specs.Laps.{LapsKeepImbalances};
 ghost use Rattle.flows.specs.Cuts.{CutShowsNone};
-ghost use Rattle.flows.specs.Prices.{KeptSignsEase};
+ghost use Rattle.flows.specs.searching.Prices.{KeptSignsEase};
 
 use costs::CostKind;
 

@@ -2,7 +2,7 @@
 
 ghost use Rattle.std.specs.Prelude.{◌≡◌, ℕ, ◌<◌, ◌≤◌, length};
 ghost use Rattle.networks.specs.Nets.{shown, IsAt};
-ghost use Rattle.flows.specs.Fits.{Fit, Fitting, Bounded, price_limit, change_limit};
+ghost use Rattle.flows.specs.searching.Fits.{Fit, Fitting, Bounded, price_limit, change_limit};
 
 use crate::pricing::reduced;
 use costs::CostKind;
@@ -28,7 +28,7 @@ pub struct View<'a, N: Network> {
 }
 
 impl<N: Network> View<'_, N> {
-    ghost use Rattle.flows.specs.Views.{Sees};
+    ghost use Rattle.flows.specs.searching.Views.{Sees};
 
     // The arc at a place.
     pub fn arc(&self, i: usize) -> Arc<N::Cost>

@@ -8,10 +8,10 @@ use Rattle.labels.specs.declared.labelling.Entry.{Entry}
 use Rattle.labels.specs.declared.labelling.Labels.{Labels}
 use Rattle.flows.specs.Kilter.{reduced}
 use Rattle.flows.specs.Laps.{near, far, step_over}
-use Rattle.flows.specs.Views.{Sees}
+use Rattle.flows.specs.searching.Views.{Sees}
 use Rattle.flows.specs.declared.views.Seen.{Seen}
 use Rattle.flows.proofs.ArcSums.{same_at}
-use Rattle.flows.specs.Fits.{Fit}
+use Rattle.flows.specs.searching.Fits.{Fit}
 use Rattle.labels.specs.Moves.{may, may_at}
 use Rattle.labels.specs.Good.{count, node_at, place_of, Open, Good, Grown, outward_at, linked_by, pushed}
 use Rattle.labels.proofs.More.{counts, room, whole_more, grown_more, linked_more}

@@ -11,7 +11,7 @@ use Rattle.costs.specs.Kinds.{Kind}
 use Rattle.flows.specs.Kilter.{reduced}
 use Rattle.networks.specs.Nets.{IsAt}
 use Rattle.networks.specs.declared.network.Arc.{Arc}
-use Rattle.flows.specs.Views.{Sees}
+use Rattle.flows.specs.searching.Views.{Sees}
 use Rattle.flows.specs.declared.views.Seen.{Seen}
 use Rattle.flows.specs.declared.steps.Step.{Step}
 use Rattle.flows.proofs.ArcSums.{same_at, at_place}

@@ -7,7 +7,7 @@ use Rattle.std.proofs.lemmas.Bool.{cases_eq, cases_lt, ltb-true}
 use Rattle.std.proofs.lemmas.Option.{cond_some}
 use Rattle.costs.specs.Kinds.{Kind, Laws}
 use Rattle.flows.specs.Kilter.{reduced}
-use Rattle.flows.specs.Fits.{Fit, Fitting, Small}
+use Rattle.flows.specs.searching.Fits.{Fit, Fitting, Small}
 use Rattle.flows.specs.Flows.{Ends}
 use Rattle.flows.specs.Laps.{Leads, near, first, Chain, Apart, moved, sent}
 use Rattle.networks.specs.declared.network.Arc.{Arc}

@@ -2,11 +2,11 @@
 use Rattle.std.specs.Prelude.{◌≡◌, ℕ, ◌<◌, ◌≤◌, true, List, [], ◌∷◌, length, ℤ, pos, ◌≤ℤ◌, slice_index_or, slice_set, unsigned_abs}
 use Rattle.costs.specs.Kinds.{Kind}
 use Rattle.networks.specs.Nets.{IsAt}
-use Rattle.flows.specs.Fits.{Small}
+use Rattle.flows.specs.searching.Fits.{Small}
 use Rattle.flows.specs.Kilter.{reduced, kilter_number, kilter_sum}
 use Rattle.flows.specs.Laps.{Leads, moved, Lap, Better}
 use Rattle.networks.specs.Limits.{flow_limit}
-use Rattle.flows.proofs.Rooms.{Amiss}
+use Rattle.flows.specs.searching.Ways.{Amiss}
 use Rattle.networks.specs.declared.network.Arc.{Arc}
 use Rattle.flows.specs.declared.steps.Step.{Step}
 use Rattle.labels.specs.declared.labelling.Labels.{Labels}

@@ -4,7 +4,7 @@ ghost use Rattle.std.specs.Prelude.{◌≡◌, ℕ, ◌<◌, ◌≤◌, length, 
 ghost use Rattle.std.specs.List.{AllByRecursion};
 ghost use Rattle.networks.specs.Limits.{most_nodes, flow_limit};
 ghost use Rattle.networks.specs.Nets.{shown};
-ghost use Rattle.flows.specs.Fits.{Small, Bounded, price_limit};
+ghost use Rattle.flows.specs.searching.Fits.{Small, Bounded, price_limit};
 ghost use Rattle.flows.specs.Laps.{moved, sent};
 ghost use Rattle.labels.specs.Good.{Labelled, count};
 ghost use Rattle.labels.specs.Searches.{Searching};

@@ -1,7 +1,7 @@
 -- The network that an arc table stands for.
-use Rattle.std.specs.Prelude.{ℕ, false, cond, ◌||◌, List, [], map, length, Some, None, Option, ◌==◌, nat_lt}
+use Rattle.std.specs.Prelude.{ℕ, false, cond, List, [], map, length, Some, None, Option, ◌==◌}
 use Rattle.networks.specs.declared.network.Arc.{Arc}
-use Rattle.networks.specs.Limits.{most_nodes, most_arcs}
+use Rattle.networks.specs.Limits.{counts_fit}
 use Rattle.networks.specs.Answers.{Told, unless}
 use Rattle.networks.specs.Nets.{Net}
 use Rattle.makes.specs.declared.table.Row.{Row}
@@ -10,7 +10,7 @@ use Rattle.makes.specs.Bases.{kept_net}
 
 -- why no table is made: 1 for the counts, then 2 for the rows
 abbrev pub table_stop : ℕ → ℕ → ℕ → Option Told
-table_stop nodes arcs rows = cond (nodes == 0 || (nat_lt most_nodes nodes || nat_lt most_arcs arcs)) (Some (1, 0)) (cond (rows == arcs) None (Some (2, 0)))
+table_stop nodes arcs rows = cond (counts_fit nodes arcs) (cond (rows == arcs) None (Some (2, 0))) (Some (1, 0))
 
 -- no arc is held or fixed
 abbrev pub row_arc : {C : Type 0} → Row C → Arc C

@@ -4,7 +4,7 @@ use Rattle.std.proofs.lemmas.Bool.{and_parts, eqb-true, leb-true}
 use Rattle.costs.specs.Kinds.{Kind}
 use Rattle.networks.specs.Nets.{Net, shown}
 use Rattle.networks.proofs.Shown.{length_shown}
-use Rattle.flows.specs.Fits.{Small}
+use Rattle.flows.specs.searching.Fits.{Small}
 use Rattle.flows.specs.Stops.{counts_fit, lengths_fit, arcs_stop, open_stop}
 use Rattle.flows.proofs.Fitted.{passed, neither, small}
 use Rattle.flows.proofs.Needing.{imbalances_long}

@@ -5,13 +5,13 @@ use Rattle.costs.specs.Kinds.{Kind, Laws}
 use Rattle.networks.specs.Nets.{IsAt}
 use Rattle.networks.specs.declared.network.Arc.{Arc}
 use Rattle.flows.specs.declared.steps.Step.{Step}
-use Rattle.flows.specs.Fits.{Fit, Fitting, Bounded, price_limit, change_limit}
+use Rattle.flows.specs.searching.Fits.{Fit, Fitting, Bounded, price_limit, change_limit}
 use Rattle.flows.specs.Kilter.{reduced}
 use Rattle.flows.specs.Laps.{near, far}
-use Rattle.flows.specs.Prices.{Raised}
+use Rattle.flows.specs.searching.Prices.{Raised}
 use Rattle.flows.proofs.ArcSums.{same_at}
 use Rattle.flows.proofs.Prices.{by_ends}
-use Rattle.flows.proofs.Rooms.{Amiss}
+use Rattle.flows.specs.searching.Ways.{Amiss}
 use Rattle.labels.specs.declared.labelling.Labels.{Labels}
 use Rattle.labels.specs.Good.{node_at, place_of, Good}
 use Rattle.labels.specs.Moves.{may}

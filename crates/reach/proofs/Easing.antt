@@ -8,13 +8,13 @@ use Rattle.costs.specs.Kinds.{Kind, Laws}
 use Rattle.networks.specs.Nets.{IsAt}
 use Rattle.networks.specs.declared.network.Arc.{Arc}
 use Rattle.flows.specs.declared.steps.Step.{Step}
-use Rattle.flows.specs.Fits.{Fitting}
+use Rattle.flows.specs.searching.Fits.{Fitting}
 use Rattle.flows.specs.Flows.{EachArc, Ends}
 use Rattle.flows.specs.Kilter.{reduced, kilter_number, out_of_kilter}
 use Rattle.flows.specs.Laps.{near, far}
-use Rattle.flows.specs.Prices.{Raised}
+use Rattle.flows.specs.searching.Prices.{Raised}
 use Rattle.flows.proofs.ArcSums.{same_at, all_from, each_from}
-use Rattle.flows.proofs.Cuts.{Stuck, Strained}
+use Rattle.flows.specs.searching.Ways.{Stuck, Strained}
 use Rattle.flows.proofs.Group.{left, cancel}
 use Rattle.flows.proofs.Prices.{Allows, all_repriced}
 use Rattle.flows.proofs.Wants.{WantsMore, WantsLess, zero_kilter}

@@ -3,10 +3,10 @@ use Rattle.std.proofs.Common.{◌≡◌, ◌+◌, ◌-◌, ◌≤◌, Bool, true
 use Rattle.costs.specs.Kinds.{Kind, Laws, minus}
 use Rattle.networks.specs.Limits.{cost_limit}
 use Rattle.networks.specs.declared.network.Arc.{Arc}
-use Rattle.flows.specs.Fits.{Fit, Bounded, price_limit, change_limit}
+use Rattle.flows.specs.searching.Fits.{Fit, Bounded, price_limit, change_limit}
 use Rattle.flows.specs.Kilter.{price, reduced}
 use Rattle.flows.specs.Laps.{near, far}
-use Rattle.flows.specs.Prices.{Raised}
+use Rattle.flows.specs.searching.Prices.{Raised}
 use Rattle.flows.proofs.Group.{size_neg, size_minus, size_reduced}
 use Rattle.flows.proofs.Nearer.{to_lands, from_lands}
 use Rattle.flows.proofs.Shifts.{raised_outside}

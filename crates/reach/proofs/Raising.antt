@@ -3,7 +3,7 @@ use Rattle.std.proofs.Common.{◌≡◌, ℕ, ◌+◌, ◌<◌, ◌≤◌, cond,
 use Rattle.std.proofs.lemmas.List.{get_or_read}
 use Rattle.std.proofs.lemmas.Bool.{lt-ltb, le-ltb, cond-true, cond-false}
 use Rattle.costs.specs.Kinds.{Kind}
-use Rattle.flows.specs.Fits.{Bounded}
+use Rattle.flows.specs.searching.Fits.{Bounded}
 
 -- a price, raised where the node's place is 0
 abbrev pub raised_at : {C : Type 0} → Kind C → C → ℕ → C → C

@@ -11,7 +11,7 @@ use Rattle.flows.specs.Laps.{near, far}
 use Rattle.labels.specs.Moves.{may_at}
 use Rattle.labels.specs.Good.{count, entry_at, node_at, place_of, Open, Linked, Whole, Good}
 use Rattle.flows.proofs.ArcSums.{same_at}
-use Rattle.flows.specs.Prices.{Raised}
+use Rattle.flows.specs.searching.Prices.{Raised}
 use Rattle.reach.specs.Scans.{is_labelled}
 
 module _ {C : Type 0} (K : Kind C) (arcs : List (Arc C)) (flow : List ℤ) (ps qs : List C) (chosen : ℕ) (e : C) (ls : Labels) (long : length qs ≡ length ps) (raised : Raised K (length ps) e (is_labelled ls) ps qs) (good : Good K arcs flow ps chosen ls) where

@@ -8,7 +8,7 @@ use Rattle.networks.specs.Nets.{IsAt}
 use Rattle.networks.specs.declared.network.Arc.{Arc}
 use Rattle.labels.specs.declared.labelling.Labels.{Labels}
 use Rattle.flows.specs.Laps.{near, far, step_over}
-use Rattle.flows.specs.Fits.{Fit, Fitting}
+use Rattle.flows.specs.searching.Fits.{Fit, Fitting}
 use Rattle.labels.specs.Moves.{may}
 use Rattle.labels.specs.Good.{count, node_at, place_of, pushed, linked_by, Labelled, Good, Grown}
 use Rattle.flows.proofs.ArcSums.{same_at}
@@ -17,7 +17,7 @@ use Rattle.flows.proofs.Prices.{to_raised, from_raised}
 use Rattle.labels.proofs.Extending.{new_room, new_good, new_grown}
 use Rattle.reach.specs.declared.scans.Best.{Best}
 use Rattle.flows.specs.declared.steps.Step.{Step}
-use Rattle.flows.specs.Prices.{Raised}
+use Rattle.flows.specs.searching.Prices.{Raised}
 use Rattle.reach.specs.Scans.{is_labelled, crossing_at, slack_at, BestIs, Ripe, link_over}
 
 across_ends : (x y : Bool) (p q : ℕ) (along : Bool) → ltb 0 p ≡ x → ltb 0 q ≡ y → cond x (cond y None (Some true)) (cond y (Some false) None) ≡ Some along → (0 < cond along p q) × (cond along q p ≡ 0)

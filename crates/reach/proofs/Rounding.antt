@@ -4,7 +4,7 @@ use Rattle.std.proofs.lemmas.Bool.{ltb-true, ltb-false, cases_lt}
 use Rattle.costs.specs.Kinds.{Kind, Laws}
 use Rattle.networks.specs.declared.network.Arc.{Arc}
 use Rattle.flows.specs.declared.steps.Step.{Step}
-use Rattle.flows.specs.Fits.{Bounded, found_limit}
+use Rattle.flows.specs.searching.Fits.{Bounded, found_limit}
 use Rattle.flows.specs.Kilter.{price, reduced, kilter_number}
 use Rattle.flows.proofs.ArcSums.{each_at, each_from, each_long}
 use Rattle.flows.proofs.Group.{size_zero}
@@ -18,7 +18,7 @@ use Rattle.reach.specs.declared.rounds.Over.{Over}
 use Rattle.labels.specs.Searches.{Searching}
 use Rattle.reach.specs.Rounds.{large, NoHigher, Repriced, Advanced}
 use Rattle.reach.proofs.Turning.{none_higher, same_source}
-use Rattle.flows.specs.Prices.{SmallInside}
+use Rattle.flows.specs.searching.Prices.{SmallInside}
 
 -- the largest size of the price of a labelled node, with k nodes labelled: each has at most twice the largest price at the start and one cost more
 abbrev pub bound : ℕ → ℕ

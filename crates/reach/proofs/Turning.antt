@@ -5,10 +5,10 @@ use Rattle.costs.specs.Kinds.{Kind, Laws}
 use Rattle.networks.specs.Nets.{IsAt}
 use Rattle.networks.specs.declared.network.Arc.{Arc}
 use Rattle.flows.specs.declared.steps.Step.{Step}
-use Rattle.flows.specs.Fits.{Fitting, Bounded, price_limit, change_limit}
+use Rattle.flows.specs.searching.Fits.{Fitting, Bounded, price_limit, change_limit}
 use Rattle.flows.specs.Kilter.{reduced, kilter_number}
 use Rattle.flows.specs.Laps.{near, far}
-use Rattle.flows.specs.Prices.{Raised}
+use Rattle.flows.specs.searching.Prices.{Raised}
 use Rattle.flows.proofs.ArcSums.{each_from}
 use Rattle.flows.proofs.Group.{le_refl}
 use Rattle.labels.specs.declared.labelling.Labels.{Labels}

@@ -8,7 +8,7 @@ use Rattle.networks.specs.declared.network.Arc.{Arc}
 use Rattle.flows.specs.Flows.{Within}
 use Rattle.flows.specs.Kilter.{reduced}
 use Rattle.flows.proofs.Group.{comm, left, cancel_le, neg_up}
-use Rattle.flows.proofs.Rooms.{Amiss}
+use Rattle.flows.specs.searching.Ways.{Amiss}
 use Rattle.flows.proofs.Wants.{WantsMore, WantsLess, more_amiss, less_amiss}
 use Rattle.labels.specs.Moves.{may}
 use Rattle.reach.specs.Rises.{own_limit_at}

@@ -6,7 +6,7 @@ use Rattle.networks.specs.Nets.{IsAt}
 use Rattle.networks.specs.declared.network.Arc.{Arc}
 use Rattle.flows.specs.declared.steps.Step.{Step}
 use Rattle.flows.specs.Kilter.{price, reduced}
-use Rattle.flows.specs.Prices.{Raised, SmallInside}
+use Rattle.flows.specs.searching.Prices.{Raised, SmallInside}
 use Rattle.labels.specs.declared.labelling.Labels.{Labels}
 use Rattle.reach.specs.declared.scans.Best.{Best}
 use Rattle.reach.specs.declared.rises.Rise.{Rise}

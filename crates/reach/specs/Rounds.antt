@@ -6,8 +6,8 @@ use Rattle.networks.specs.Nets.{IsAt}
 use Rattle.flows.specs.declared.steps.Step.{Step}
 use Rattle.flows.specs.Flows.{EachArc}
 use Rattle.flows.specs.Kilter.{reduced, kilter_number, out_of_kilter}
-use Rattle.flows.specs.Fits.{Bounded, found_limit}
-use Rattle.flows.proofs.Cuts.{Stuck, Strained}
+use Rattle.flows.specs.searching.Fits.{Bounded, found_limit}
+use Rattle.flows.specs.searching.Ways.{Stuck, Strained}
 use Rattle.labels.specs.declared.labelling.Labels.{Labels}
 use Rattle.labels.specs.Good.{count, node_at, Labelled, Good, Grown}
 use Rattle.labels.specs.Ways.{Chosen}

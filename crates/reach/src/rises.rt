@@ -4,8 +4,8 @@ ghost use Rattle.std.specs.Prelude.{◌≡◌, ℕ, ◌<◌, ◌≤◌, length};
 ghost use Rattle.costs.specs.Kinds.{size_limit};
 ghost use Rattle.networks.specs.Limits.{most_nodes};
 ghost use Rattle.networks.specs.Nets.{shown};
-ghost use Rattle.flows.specs.Fits.{Bounded, price_limit, change_limit};
-ghost use Rattle.flows.specs.Prices.{Raised};
+ghost use Rattle.flows.specs.searching.Fits.{Bounded, price_limit, change_limit};
+ghost use Rattle.flows.specs.searching.Prices.{Raised};
 ghost use Rattle.reach.specs.Scans.{is_labelled};
 ghost use Rattle.reach.specs.Rises.{own_limit_at, next_of, NextIs};
 

@@ -3,7 +3,7 @@
 ghost use Rattle.std.specs.Prelude.{◌≡◌, ℕ, ◌<◌, ◌≤◌, length};
 ghost use Rattle.networks.specs.Limits.{most_nodes};
 ghost use Rattle.networks.specs.Nets.{shown};
-ghost use Rattle.flows.specs.Fits.{Bounded, price_limit};
+ghost use Rattle.flows.specs.searching.Fits.{Bounded, price_limit};
 ghost use Rattle.labels.specs.Good.{count, place_of};
 ghost use Rattle.reach.specs.Scans.{Sighted};
 ghost use Rattle.labels.specs.Searches.{Searching};

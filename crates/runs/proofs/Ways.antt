@@ -7,7 +7,7 @@ use Rattle.networks.specs.Answers.{Told}
 use Rattle.networks.specs.Nets.{Net, shown}
 use Rattle.networks.proofs.Shown.{length_shown}
 use Rattle.flows.specs.Flows.{Ends, Meets}
-use Rattle.flows.specs.Fits.{Fitting}
+use Rattle.flows.specs.searching.Fits.{Fitting}
 use Rattle.flows.specs.Stops.{stop_unless, or_else, counts_fit, lengths_fit, arcs_stop, needs_stop, first_stop, take_up_stop}
 use Rattle.flows.specs.Settles.{Tables, Answered, least, paused, none, Answers, Settles}
 use Rattle.flows.proofs.Fitted.{Passed, no_stop}

@@ -5,7 +5,7 @@ use Rattle.std.proofs.lemmas.Bool.{cases_eq}
 use Rattle.costs.specs.Kinds.{Kind, Laws}
 use Rattle.networks.specs.declared.network.Arc.{Arc}
 use Rattle.flows.specs.declared.steps.Step.{Step}
-use Rattle.flows.specs.Fits.{Fitting, Small}
+use Rattle.flows.specs.searching.Fits.{Fitting, Small}
 use Rattle.flows.specs.Laps.{sent}
 use Rattle.labels.specs.declared.labelling.Labels.{Labels}
 use Rattle.labels.specs.Good.{count, entry_at, place_of}

@@ -9,9 +9,9 @@ use Rattle.networks.specs.Nets.{IsAt}
 use Rattle.flows.specs.declared.steps.Step.{Step}
 use Rattle.flows.specs.Laps.{near, far, step_over}
 use Rattle.flows.specs.Kilter.{reduced, way}
-use Rattle.flows.specs.Fits.{Fit}
+use Rattle.flows.specs.searching.Fits.{Fit}
 use Rattle.flows.proofs.ArcSums.{same_at}
-use Rattle.flows.proofs.Rooms.{Amiss}
+use Rattle.flows.specs.searching.Ways.{Amiss}
 use Rattle.flows.proofs.Wants.{WantsMore, WantsLess, more_amiss, less_amiss}
 use Rattle.labels.specs.Moves.{may}
 use Rattle.search.specs.Going.{Wanted}

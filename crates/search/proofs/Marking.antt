@@ -7,9 +7,9 @@ use Rattle.networks.specs.declared.network.Arc.{Arc}
 use Rattle.networks.specs.Nets.{IsAt}
 use Rattle.flows.specs.declared.steps.Step.{Step}
 use Rattle.flows.specs.Cuts.{marked}
-use Rattle.flows.specs.Fits.{Fitting}
+use Rattle.flows.specs.searching.Fits.{Fitting}
 use Rattle.flows.proofs.ArcSums.{each_at, each_from, at_place}
-use Rattle.flows.proofs.Cuts.{Stuck}
+use Rattle.flows.specs.searching.Ways.{Stuck}
 use Rattle.labels.specs.declared.labelling.Labels.{Labels}
 use Rattle.reach.specs.Scans.{is_labelled}
 use Rattle.reach.specs.Rounds.{CutOff}

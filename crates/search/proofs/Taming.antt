@@ -4,7 +4,7 @@ use Rattle.std.specs.List.{AllByRecursion}
 use Rattle.costs.specs.Kinds.{Kind, Laws}
 use Rattle.networks.specs.declared.network.Arc.{Arc}
 use Rattle.flows.specs.Kilter.{largest}
-use Rattle.flows.specs.Fits.{Fitting, Bounded}
+use Rattle.flows.specs.searching.Fits.{Fitting, Bounded}
 use Rattle.flows.proofs.Prices.{kept_signs_ease}
 use Rattle.tidy.specs.Picks.{Tidied}
 use Rattle.tidy.proofs.Sounds.{sound_from}

@@ -9,7 +9,7 @@ use Rattle.flows.specs.Kilter.{reduced, kilter_number, kilter_sum, lap_limit, ou
 use Rattle.flows.specs.Laps.{Lap, Better, Laps}
 use Rattle.search.specs.Ready.{Ready}
 use Rattle.flows.specs.Cuts.{marked}
-use Rattle.flows.proofs.Cuts.{Stuck, Strained}
+use Rattle.flows.specs.searching.Ways.{Stuck, Strained}
 use Rattle.labels.specs.Ways.{Chosen, GoneRound}
 use Rattle.search.specs.declared.seek.Halt.{Halt}
 use Rattle.search.specs.declared.seek.Halt.TheVariants as halt

@@ -3,7 +3,7 @@
 ghost use Rattle.std.specs.Prelude.{◌≡◌, ℕ, ◌+◌, ◌<◌, ◌≤◌, true, false, length, if◌then◌else◌, MatchOption, slice_index};
 ghost use Rattle.networks.specs.Limits.{most_nodes};
 ghost use Rattle.networks.specs.Nets.{shown};
-ghost use Rattle.flows.specs.Fits.{Bounded};
+ghost use Rattle.flows.specs.searching.Fits.{Bounded};
 ghost use Rattle.reach.specs.Scans.{is_labelled};
 ghost use Rattle.reach.specs.Rounds.{large};
 ghost use Rattle.search.specs.Ready.{Ready};

@@ -4,7 +4,7 @@ ghost use Rattle.std.specs.Prelude.{◌≡◌, ℕ, ◌<◌, ◌≤◌, cond, le
 ghost use Rattle.networks.specs.Limits.{most_arcs};
 ghost use Rattle.networks.specs.Answers.{refusal};
 ghost use Rattle.networks.specs.Nets.{shown};
-ghost use Rattle.flows.specs.Fits.{Fitting};
+ghost use Rattle.flows.specs.searching.Fits.{Fitting};
 ghost use Rattle.flows.specs.Kilter.{largest};
 ghost use Rattle.flows.specs.Flows.{total as total_of};
 ghost use Rattle.flows.specs.Stops.{first_stop as first_stop_of};
@@ -79,7 +79,7 @@ fn search<N: Network>(
 {
     match seek(net, flow, prices, marks, budget) {
         Ok(laps) => Answer::Least {
-            total: total(net, flow),
+            total: total(net, flow).unwrap(),
             laps,
         },
         Err(Halt::Paused(laps)) => Answer::Paused { laps },

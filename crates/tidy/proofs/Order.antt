@@ -4,7 +4,7 @@ use Rattle.std.specs.List.{AllByRecursion, FoldsTo}
 use Rattle.std.specs.Iterator.{Yields, YieldsFirst}
 use Rattle.networks.specs.declared.network.Arc.{Arc}
 use Rattle.costs.specs.Kinds.{Kind, Laws}
-use Rattle.flows.specs.Prices.{nearer}
+use Rattle.flows.specs.searching.Prices.{nearer}
 use Rattle.flows.proofs.Nearer.{nearer_total, nearer_trans, nearer_refl}
 use Rattle.tidy.specs.declared.picks.Pick.{Pick}
 use Rattle.tidy.specs.Picks.{slack_of, chosen, nearest_of}

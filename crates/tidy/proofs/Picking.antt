@@ -12,8 +12,8 @@ use Rattle.tidy.proofs.Marks.{some_labelled_at, first_free}
 use Rattle.flows.proofs.Nearer.{sign_raised, to_lands, from_lands, none_larger}
 use Rattle.flows.specs.Kilter.{reduced, price, largest}
 use Rattle.flows.specs.Flows.{Ends}
-use Rattle.flows.specs.Prices.{SignKept, SignsKept, Raised, nearer, SmallInside}
-use Rattle.flows.specs.Fits.{Bounded, price_limit, change_limit}
+use Rattle.flows.specs.searching.Prices.{SignKept, SignsKept, Raised, nearer, SmallInside}
+use Rattle.flows.specs.searching.Fits.{Bounded, price_limit, change_limit}
 
 pub all_both : {X : Type 0} (P Q R : X → Type 0) → ((x : X) → P x → Q x → R x) → (xs : List X) → AllByRecursion P xs → AllByRecursion Q xs → AllByRecursion R xs
 all_both P Q R h [] p q = tt

@@ -3,7 +3,7 @@ use Rattle.std.proofs.Common.{ℕ, ◌≤◌, List}
 use Rattle.costs.specs.Kinds.{Kind}
 use Rattle.networks.specs.declared.network.Arc.{Arc}
 use Rattle.flows.specs.Flows.{Ends}
-use Rattle.flows.specs.Fits.{Fitting}
+use Rattle.flows.specs.searching.Fits.{Fitting}
 use Rattle.flows.proofs.ArcSums.{all_from}
 use Rattle.flows.proofs.Nearer.{largest_most}
 use Rattle.tidy.specs.Picks.{Sound}

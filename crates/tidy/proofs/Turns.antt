@@ -4,8 +4,8 @@ use Rattle.std.proofs.lemmas.Bool.{cases_eq}
 use Rattle.networks.specs.declared.network.Arc.{Arc}
 use Rattle.costs.specs.Kinds.{Kind, Laws}
 use Rattle.flows.specs.Kilter.{price, reduced, largest}
-use Rattle.flows.specs.Prices.{Raised, SignKept, SignsKept, SmallInside}
-use Rattle.flows.specs.Fits.{Bounded, found_limit, price_limit}
+use Rattle.flows.specs.searching.Prices.{Raised, SignKept, SignsKept, SmallInside}
+use Rattle.flows.specs.searching.Fits.{Bounded, found_limit, price_limit}
 use Rattle.flows.proofs.Group.{size_zero}
 use Rattle.flows.proofs.Prices.{sign_same, sign_trans}
 use Rattle.flows.proofs.Shifts.{Shifted, SmallPrices, not_shifted, still_shifted, more_shifted, raised_inside, raised_outside, shift_small, all_small}

@@ -8,8 +8,8 @@ use Rattle.costs.specs.Kinds.{Kind}
 use Rattle.tidy.specs.declared.picks.Pick.{Pick}
 use Rattle.flows.specs.Kilter.{reduced, largest}
 use Rattle.flows.specs.Flows.{Ends}
-use Rattle.flows.specs.Prices.{SignsKept, Raised, nearer, SmallInside}
-use Rattle.flows.specs.Fits.{Fitting, Bounded, found_limit, change_limit}
+use Rattle.flows.specs.searching.Prices.{SignsKept, Raised, nearer, SmallInside}
+use Rattle.flows.specs.searching.Fits.{Fitting, Bounded, found_limit, change_limit}
 
 -- the node is labelled: of marks with node 1's first
 abbrev pub labelled_at : List Bool → ℕ → Bool

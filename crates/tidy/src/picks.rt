@@ -3,8 +3,8 @@
 ghost use Rattle.std.specs.Prelude.{◌≡◌, ℕ, ◌≤◌, length, not, None};
 ghost use Rattle.std.specs.List.{position};
 ghost use Rattle.networks.specs.Nets.{shown};
-ghost use Rattle.flows.specs.Fits.{Fit, Fitting, Bounded, price_limit};
-ghost use Rattle.flows.specs.Prices.{nearer as is_nearer};
+ghost use Rattle.flows.specs.searching.Fits.{Fit, Fitting, Bounded, price_limit};
+ghost use Rattle.flows.specs.searching.Prices.{nearer as is_nearer};
 ghost use Rattle.tidy.specs.Picks.{slack_of, chosen, nearest_of, first_free_of, unmarked, GoodPick};
 
 use costs::CostKind;

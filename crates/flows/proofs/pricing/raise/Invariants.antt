@@ -1,5 +1,5 @@
 use Rattle.std.proofs.Common.{◌≡◌, ℕ, ◌≤◌, Bool, get_or}
-use Rattle.flows.specs.Prices.{Tells, Raised}
+use Rattle.flows.specs.searching.Prices.{Tells, Raised}
 use Rattle.flows.proofs.pricing.raise.Given as goal
 
 abbrev pub invariant-loop-i : goal.invariant-loop-i

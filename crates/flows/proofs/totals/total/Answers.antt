@@ -1,36 +1,19 @@
-use Rattle.std.proofs.Common.{length, drop, sym, ap, ◌∙◌, subst, ap₂, arith, w32, SFits, rules}
-use Rattle.std.proofs.lemmas.Int.{to_z-of_z}
+use Rattle.std.proofs.Common.{◌≡◌, drop, rules, None, sym, ap, ◌∙◌, ap₂}
 use Rattle.costs.specs.Kinds.{sums}
 use Rattle.networks.specs.Nets.{shown}
-use Rattle.flows.specs.Flows.{total}
-use Rattle.flows.specs.Fits.{Small}
-use Rattle.flows.proofs.Group.{size_zero}
-use Rattle.flows.proofs.Turns.{none_left, small_rest}
-use Rattle.flows.proofs.Totalling.{total_start, total_more, total_all}
+use Rattle.flows.specs.Flows.{running_total, added}
+use Rattle.flows.proofs.Turns.{none_left}
+use Rattle.flows.proofs.RunningTotals.{running_turns, running_end, total_within}
 use Rattle.flows.proofs.totals.total.Goals as goal
-
-pub loop-arc-init : goal.loop-arc-init
-loop-arc-init g c =
-    let K = g.N.Cost.CostKind.kind in
-    let z = c.zero-all.ensures in
-    let start = c.into_iter-arc-iterator.ensures.into_iter_gives in
-    let arcs = ap (λ s. drop s.a.given (shown (g.N.Network.meaning s.a.net.now))) start ∙ ap (λ s. drop s.given (shown (g.N.Network.meaning s.net.now))) c.zip-arc-items.ensures.first ∙ c.arcs_of.ensures in
-    let flow = ap (λ s. s.b.rest.now) start ∙ c.zip-arc-items.ensures.second.0 in (
-      subst Small (sym flow) c.requires.small,
-      omega (arith, ap length flow, c.requires.few, ap K.size z, size_zero K g.met.N.Cost.CostKind.lawful),
-      total_start K g.met.N.Cost.CostKind.lawful _ _ z ∙ ap₂ (total (sums K)) arcs flow,
-    )
-
-pub loop-arc-preserved : goal.loop-arc-preserved
-loop-arc-preserved g c =
-    let K = g.N.Cost.CostKind.kind in
-    let next = c.in-Some.ensures.steps in
-    let f : SFits w32 c.in-Some.f.now = search rules in (
-      small_rest next.1 c.loop-arc.invariant.0,
-      omega (arith, ap length next.1, c.loop-arc.invariant.1, c.multiple.ensures.small, c.sum-all.ensures.small),
-      total_more K g.met.N.Cost.CostKind.lawful c.in-Some.arc c.in-Some.f.now c.loop-arc.all c.multiple.result c.sum-all.result next.0 next.1 (simp to_z-of_z at c.multiple.ensures.value) c.sum-all.ensures.value ∙ c.loop-arc.invariant.2,
-    )
 
 pub returns : goal.returns
 returns g c =
-    sym (total_all g.N.Cost.CostKind.kind g.met.N.Cost.CostKind.lawful _ _ c.loop-arc.all (none_left _ _ c.in-None.ensures.steps)) ∙ c.loop-arc.invariant.2
+    let K = g.N.Cost.CostKind.kind in
+    let n = g.N.Network.meaning c.args.net.now in
+    let (xs, o, f, a, (t, yields, last), folds, ends) = c.try_fold.ensures.ran in
+    let whole = running_turns (sums K) (λ s. drop s.given (shown (g.N.Network.meaning s.net.now))) _ xs c.zip.result t _ (f, a) yields folds (λ p q x h. search rules) in
+    let rest = running_end (sums K) (drop t.a.given (shown (g.N.Network.meaning t.a.net.now))) t.b.rest.now a c.try_fold.result o _ _ _ _ last ends (none_left _ _) (λ q. q)
+    (λ x u v. let out : added (sums K) a x.0.cost x.1.now ≡ None = search rules in ((x.0, x.1.now), _, v.5, u.0, u.1, out)) in
+    let arcs = ap (λ s. drop s.given (shown (g.N.Network.meaning s.net.now))) c.zip.ensures.first ∙ c.arcs_of.ensures in
+    let e : c.try_fold.result ≡ running_total (sums K) K.zero (shown n) c.args.flow.now = sym (whole ∙ rest) ∙ ap₂ (λ z xs. running_total (sums K) z xs c.zip.result.b.rest.now) c.zero.ensures arcs ∙ ap (running_total (sums K) K.zero (shown n)) c.zip.ensures.second.0 in
+    record { running = e; within = λ few fit small. e ∙ total_within K g.met.N.Cost.CostKind.lawful n.nodes (shown n) c.args.flow.now few fit small }

@@ -2,7 +2,7 @@ use Rattle.networks.specs.Nets.{shown}
 use Rattle.std.proofs.Common.{◌<◌, ◌∷◌, length, rules, subst, sym, arith, w32, SFits}
 use Rattle.std.proofs.lemmas.Int.{to_z-of_z}
 use Rattle.std.specs.List.{AllByRecursion}
-use Rattle.flows.specs.Fits.{Small}
+use Rattle.flows.specs.searching.Fits.{Small}
 use Rattle.labels.specs.Ways.{Moving, FitsIn}
 use Rattle.flows.proofs.Turns.{held_same}
 use Rattle.labels.proofs.Rooming.{left_all, least_turns}

@@ -2,7 +2,7 @@ use Rattle.std.proofs.Common.{length, Err, sym, ap, ◌∙◌, subst, arith}
 use Rattle.std.proofs.lemmas.Result.{err_from_is_err_and}
 use Rattle.std.proofs.lemmas.Bool.{ltb-true}
 use Rattle.networks.specs.Nets.{shown}
-use Rattle.flows.specs.Fits.{Fitting}
+use Rattle.flows.specs.searching.Fits.{Fitting}
 use Rattle.labels.specs.Good.{node_at, place_of}
 use Rattle.reach.specs.Rounds.{EndsWith, Advanced}
 use Rattle.reach.proofs.Rounding.{rounding_start, rounding_small, rounding_labelled, rounding_advanced, repriced_here, repriced_after}

@@ -1,6 +1,6 @@
 use Rattle.std.proofs.Common.{◌≡◌, suc, ◌-◌, rules, sym, ◌∙◌, subst, arith}
 use Rattle.networks.specs.Nets.{shown}
-use Rattle.flows.specs.Fits.{Fitting}
+use Rattle.flows.specs.searching.Fits.{Fitting}
 use Rattle.tidy.specs.Picks.{labelled_at}
 use Rattle.tidy.proofs.Sounds.{sound_from}
 use Rattle.tidy.proofs.Turns.{start, all_moderate, finish, labelled}

@@ -1,7 +1,7 @@
 use Rattle.std.proofs.Common.{◌∷◌, length, drop, None, sym, ap, ◌∙◌, subst, rules}
 use Rattle.std.specs.List.{AllByRecursion}
 use Rattle.networks.specs.Nets.{shown}
-use Rattle.flows.specs.Fits.{Fit}
+use Rattle.flows.specs.searching.Fits.{Fit}
 use Rattle.flows.proofs.ArcSums.{all_from}
 use Rattle.flows.proofs.Turns.{left_all, held_same}
 use Rattle.tidy.specs.Picks.{nearest_of}

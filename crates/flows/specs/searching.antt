@@ -1,0 +1,4 @@
+pub mod Fits
+pub mod Prices
+pub mod Views
+pub mod Ways
