@@ -36,7 +36,7 @@ pub fn bounds(lo: i32, hi: i32) -> Result<Bounds, Fail> {
 }
 
 // Lets a ring go that has to be empty. One with tags left cannot be let go: a test that is about to fail keeps it for ever.
-fn close(tags: TagRing) -> Result<(), Fail> {
+pub fn close(tags: TagRing) -> Result<(), Fail> {
     tags.close().map_err(|left| {
         let _kept = unsafe { ManuallyDrop::new_unchecked(left) };
         Fail::new("tags are left")

@@ -13,6 +13,15 @@ fn print_numbers(rt: &HostRuntime, flow: &[i32]) -> io::Result<()> {
     println!(rt; "")
 }
 
+fn print_cut(rt: &HostRuntime, marks: &[u8]) -> io::Result<()> {
+    for (i, mark) in marks.iter().enumerate() {
+        if *mark == 1 {
+            print!(rt; " node {}", i + 1)?;
+        }
+    }
+    println!(rt; "")
+}
+
 // Settles from one flow on every arc, with the needs given, and prints the answer with up to eight flows.
 pub fn try_from<N: Network>(
     rt: &HostRuntime,
@@ -38,8 +47,8 @@ where
         }
         Ok(Answer::Paused { laps }) => println!(rt; "{name}: paused, laps {laps}"),
         Ok(Answer::None) => {
-            let cut = marks.iter().filter(|mark| **mark == 1).count();
-            println!(rt; "{name}: none, a cut of {cut} nodes")
+            print!(rt; "{name}: none, a cut of")?;
+            print_cut(rt, &marks)
         }
         Err(stop) => println!(rt; "{name}: refused {stop}"),
     }

@@ -1,0 +1,80 @@
+// The text of an answer: a line each for the total and every flow, for every node of a cut, or for a refusal.
+
+use crate::settling::settle_file;
+use costs::{CostKind, Plain, TwoTier};
+use files::{FileCost, Header, ReadStop, read_header};
+use makes::Row;
+use search::Answer;
+use std::alloc::{AllocError, Global};
+use std::fmt::Display;
+
+fn write_flow(out: &mut String, flow: &[i32]) -> Result<(), AllocError> {
+    for (i, carried) in flow.iter().enumerate() {
+        writeln!(out, "(flow {} {carried})", i + 1)?;
+    }
+    Ok(())
+}
+
+fn write_cut(out: &mut String, marks: &[u8]) -> Result<(), AllocError> {
+    for (i, mark) in marks.iter().enumerate() {
+        if *mark == 1 {
+            writeln!(out, "(cut {})", i + 1)?;
+        }
+    }
+    Ok(())
+}
+
+fn write_answer<C: Display + Drop>(
+    out: &mut String,
+    settled: Result<Answer<C>, ReadStop>,
+    flow: &[i32],
+    marks: &[u8],
+) -> Result<(), AllocError> {
+    match settled {
+        Ok(Answer::Least { total, .. }) => {
+            writeln!(out, "(least {total})")?;
+            write_flow(out, flow)
+        }
+        Ok(Answer::Paused { laps }) => writeln!(out, "(paused {laps})"),
+        Ok(Answer::None) => {
+            writeln!(out, "(none)")?;
+            write_cut(out, marks)
+        }
+        Err(stop) => writeln!(out, "(refused {stop})"),
+    }
+}
+
+// Settles a file with these counts, and writes the answer.
+fn write_plan<C: FileCost + Display>(
+    heap: Global,
+    out: &mut String,
+    text: &[u8],
+    header: Header,
+) -> Result<(), AllocError> {
+    let mut rows = vec![in heap; Row::new(0, 0, 0, 0, C::zero()); header.arcs]?;
+    let mut flow = vec![in heap; 0i32; header.arcs]?;
+    let mut needs = vec![in heap; 0i32; header.nodes]?;
+    let mut prices = vec![in heap; C::zero(); header.nodes]?;
+    let mut marks = vec![in heap; 0u8; header.nodes]?;
+    let settled = settle_file(
+        heap,
+        text,
+        &mut rows,
+        &mut flow,
+        &mut needs,
+        &mut prices,
+        &mut marks,
+    )?;
+    write_answer(out, settled, &flow, &marks)
+}
+
+// What the program prints for a file of this text; fails only where memory does.
+pub fn answer(heap: Global, text: &[u8]) -> Result<String, AllocError> {
+    let mut out = String::new(heap);
+    match read_header(text) {
+        Ok(header) if header.tiers == 2 => write_plan::<TwoTier>(heap, &mut out, text, header)?,
+        Ok(header) => write_plan::<Plain>(heap, &mut out, text, header)?,
+        Err(fault) => writeln!(out, "(refused {})", ReadStop::from(fault))?,
+    }
+    Ok(out)
+}

@@ -1,0 +1,7 @@
+// What the program `plan` prints for a file, compared byte for byte: plans, cuts and refusals.
+#![tactic(auto)]
+
+#[cfg(test)]
+mod plans;
+#[cfg(test)]
+mod refusals;
