@@ -2,6 +2,6 @@
 #![tactic(auto)]
 
 #[cfg(test)]
-mod plans;
+mod answered;
 #[cfg(test)]
 mod refusals;

@@ -1,6 +1,6 @@
 // Files that are refused: number 13, then the line, the place and the cause.
 
-use crate::plans::prints;
+use crate::answered::prints;
 use planner::answer;
 use std::test::Fail;
 
