@@ -1,27 +1,27 @@
 // Closing: supplies and demands over any network, and the arc that closes the flow.
 
-ghost use Rattle.std.specs.Prelude.{◌≡◌, ℕ, ◌≤◌, []};
+ghost use Rattle.std.specs.Prelude.{◌≡◌, ℕ, ◌≤◌};
 ghost use Rattle.networks.specs.Limits.{most_nodes};
 ghost use Rattle.networks.specs.Answers.{refusal};
-ghost use Rattle.layers.specs.declared.entry.Side.TheVariants.{Supply, Demand};
-ghost use Rattle.layers.specs.Closings.{closing_stop, closing_net, entry_stop, added, return_arc as return_arc_of, is_fit as is_fit_of, is_lower as is_lower_of, Keeps, Lies};
+ghost use Rattle.layers.specs.Closings.{closing_stop, closing_net, return_arc as return_arc_of, is_fit as is_fit_of, is_lower as is_lower_of, Lies};
 
-use crate::entry::{Entry, Side};
+use crate::entry::Entry;
 use arrayvec::ArrayVec;
 use costs::CostKind;
-use networks::{Arc, Bounds, COST_LIMIT, MOST_ARCS, Network, Stop, Tag, check_counts};
+use networks::{Arc, Bounds, COST_LIMIT, Network, Stop, Tag, check_counts};
 use std::cmp::Ordering;
 
 // The most entries of a closing.
 const MOST_ENTRIES: usize = 32;
 
 // The entries are in the order in which they came, and the bounds and the cost are those of the return arc.
+// A draft puts them in; nothing adds to them afterwards.
 #[derive(Drop)]
 pub struct Closing<N, C> {
-    below: N,
-    entries: ArrayVec<Entry, MOST_ENTRIES>,
-    bounds: Bounds,
-    cost: C,
+    pub(crate) below: N,
+    pub(crate) entries: ArrayVec<Entry, MOST_ENTRIES>,
+    pub(crate) bounds: Bounds,
+    pub(crate) cost: C,
 }
 
 // Where the arc of a number lies.
@@ -44,59 +44,6 @@ impl<N: Network> Closing<N, N::Cost> {
         check_counts(nodes, arcs)?;
         // Two nodes and an arc come on top.
         check_counts(nodes + 2, arcs + 1)
-    }
-
-    // A closing with no entries, and with these bounds and cost for its return arc.
-    pub fn new(below: N, bounds: Bounds, cost: N::Cost) -> Closing<N, N::Cost>
-        ensures { Keeps result below [] bounds cost }
-    {
-        Closing {
-            below,
-            entries: ArrayVec::new(),
-            bounds,
-            cost,
-        }
-    }
-
-    // Adds a supply at a node below: an arc from the source to it.
-    pub fn supply(&mut self, node: usize, bounds: Bounds) -> Result<(), Stop>
-        ensures answers { refusal result ≡ entry_stop (N.Network.meaning self.old.below) self.old.entries.items node }
-        ensures leaves { Keeps self.new self.old.below (added (N.Network.meaning self.old.below) self.old.entries.items (record { node = node; bounds = bounds; side = Supply })) self.old.bounds self.old.cost }
-    {
-        self.add(Entry {
-            node,
-            bounds,
-            side: Side::Supply,
-        })
-    }
-
-    // Adds a demand at a node below: an arc from it to the sink.
-    pub fn demand(&mut self, node: usize, bounds: Bounds) -> Result<(), Stop>
-        ensures answers { refusal result ≡ entry_stop (N.Network.meaning self.old.below) self.old.entries.items node }
-        ensures leaves { Keeps self.new self.old.below (added (N.Network.meaning self.old.below) self.old.entries.items (record { node = node; bounds = bounds; side = Demand })) self.old.bounds self.old.cost }
-    {
-        self.add(Entry {
-            node,
-            bounds,
-            side: Side::Demand,
-        })
-    }
-
-    fn add(&mut self, e: Entry) -> Result<(), Stop>
-        ensures answers { refusal result ≡ entry_stop (N.Network.meaning self.old.below) self.old.entries.items e.node }
-        ensures leaves { Keeps self.new self.old.below (added (N.Network.meaning self.old.below) self.old.entries.items e) self.old.bounds self.old.cost }
-    {
-        if !(1..=self.below.nodes()).contains(&e.node) {
-            return Err(Stop::Absent(e.node));
-        }
-        if self.entries.is_full() {
-            return Err(Stop::Full);
-        }
-        if self.below.arcs() > MOST_ARCS - 2 - self.entries.len() {
-            return Err(Stop::Counts);
-        }
-        self.entries.push(e);
-        Ok(())
     }
 
     // Whether the network below can be closed; if not, nothing is shown.

@@ -1,7 +1,7 @@
 // A closing over one arc, with a supply at its start and a demand at its end.
 
 use costs::Plain;
-use layers::Closing;
+use layers::{Closing, Draft};
 use makes::{ArcTable, Row};
 use networks::{Arc, Bounds, Lockout, Network, Stop, try_out};
 use std::test::Fail;
@@ -24,9 +24,10 @@ fn arcs_in_their_order(rt: HostRuntime) -> Result<(), Fail> {
     let table = ArcTable::new(2, 1, &mut rows);
     assert_eq!(rt; Closing::check(&table), Ok(()));
     let back = Bounds::new(0, 1_000_000)?;
-    let mut net = Closing::new(table, back, Plain { units: -10 });
-    assert_eq!(rt; net.supply(1, Bounds::new(0, 9)?), Ok(()));
-    assert_eq!(rt; net.demand(2, Bounds::new(0, 4)?), Ok(()));
+    let mut draft = Draft::new(table, back, Plain { units: -10 });
+    assert_eq!(rt; draft.supply(1, Bounds::new(0, 9)?), Ok(()));
+    assert_eq!(rt; draft.demand(2, Bounds::new(0, 4)?), Ok(()));
+    let net = draft.close();
     assert_eq!(rt; (net.nodes(), net.arcs()), (4, 4));
     let lower = Arc::free(1, 2, 0, 5, Plain { units: 1 });
     let return_arc = Arc::free(3, 4, 0, 1_000_000, Plain { units: -10 });
@@ -43,8 +44,9 @@ fn arcs_in_their_order(rt: HostRuntime) -> Result<(), Fail> {
 fn amended_arcs(rt: HostRuntime) -> Result<(), Fail> {
     let mut rows = [row()];
     let back = Bounds::new(0, 8)?;
-    let mut net = Closing::new(ArcTable::new(2, 1, &mut rows), back, Plain { units: 0 });
-    assert_eq!(rt; net.demand(1, back), Ok(()));
+    let mut draft = Draft::new(ArcTable::new(2, 1, &mut rows), back, Plain { units: 0 });
+    assert_eq!(rt; draft.demand(1, back), Ok(()));
+    let mut net = draft.close();
     let b = Bounds::new(1, 3)?;
     assert_eq!(rt; net.rebound(1, b), Ok(()));
     assert_eq!(rt; net.rebound(2, b), Ok(()));
@@ -69,15 +71,15 @@ fn amended_arcs(rt: HostRuntime) -> Result<(), Fail> {
 fn refused_entries(rt: HostRuntime) -> Result<(), Fail> {
     let mut rows = [row()];
     let b = Bounds::new(0, 1)?;
-    let mut net = Closing::new(ArcTable::new(2, 1, &mut rows), b, Plain { units: 0 });
-    assert_eq!(rt; net.supply(0, b), Err(Stop::Absent(0)));
-    assert_eq!(rt; net.demand(3, b), Err(Stop::Absent(3)));
+    let mut draft = Draft::new(ArcTable::new(2, 1, &mut rows), b, Plain { units: 0 });
+    assert_eq!(rt; draft.supply(0, b), Err(Stop::Absent(0)));
+    assert_eq!(rt; draft.demand(3, b), Err(Stop::Absent(3)));
     for _ in 0..32 {
-        assert_eq!(rt; net.supply(2, b), Ok(()));
+        assert_eq!(rt; draft.supply(2, b), Ok(()));
     }
-    assert_eq!(rt; net.demand(3, b), Err(Stop::Absent(3)));
-    assert_eq!(rt; net.demand(2, b), Err(Stop::Full));
-    assert_eq!(rt; net.arcs(), 34);
+    assert_eq!(rt; draft.demand(3, b), Err(Stop::Absent(3)));
+    assert_eq!(rt; draft.demand(2, b), Err(Stop::Full));
+    assert_eq!(rt; draft.close().arcs(), 34);
     Ok(())
 }
 
@@ -85,13 +87,13 @@ fn refused_entries(rt: HostRuntime) -> Result<(), Fail> {
 fn too_many_arcs(rt: HostRuntime) -> Result<(), Fail> {
     let b = Bounds::new(0, 1)?;
     let mut rows = [row(); 1023];
-    let mut net = Closing::new(ArcTable::new(2, 1023, &mut rows), b, Plain { units: 0 });
-    assert_eq!(rt; net.supply(1, b), Err(Stop::Counts));
-    assert_eq!(rt; net.arcs(), 1024);
+    let mut draft = Draft::new(ArcTable::new(2, 1023, &mut rows), b, Plain { units: 0 });
+    assert_eq!(rt; draft.supply(1, b), Err(Stop::Counts));
+    assert_eq!(rt; draft.close().arcs(), 1024);
     let mut more = [row(); 1024];
     let table = ArcTable::new(2, 1024, &mut more);
     assert_eq!(rt; Closing::check(&table), Err(Stop::Counts));
-    let mut unfit = Closing::new(Lockout::new(table), b, Plain { units: 0 });
+    let mut unfit = Draft::new(Lockout::new(table), b, Plain { units: 0 }).close();
     assert_eq!(rt; (unfit.nodes(), unfit.arcs(), unfit.lockouts()), (0, 0, 0));
     assert_eq!(rt; unfit.rebound(1, b), Err(Stop::Absent(1)));
     assert_eq!(rt; try_out(&mut unfit, 1, 1), Err(Stop::Absent(1)));
@@ -102,13 +104,13 @@ fn too_many_arcs(rt: HostRuntime) -> Result<(), Fail> {
 fn closing_in_a_pile(rt: HostRuntime) -> Result<(), Fail> {
     let mut rows = [row()];
     let b = Bounds::new(0, 6)?;
-    let mut net = Closing::new(
+    let mut draft = Draft::new(
         Lockout::new(ArcTable::new(2, 1, &mut rows)),
         b,
         Plain { units: 0 },
     );
-    assert_eq!(rt; net.supply(1, b), Ok(()));
-    let mut pile = Lockout::new(net);
+    assert_eq!(rt; draft.supply(1, b), Ok(()));
+    let mut pile = Lockout::new(draft.close());
     assert_eq!(rt; (pile.lockouts(), pile.arcs()), (2, 3));
     assert_eq!(rt; try_out(&mut pile, 1, 1), Ok(()));
     assert_eq!(rt; try_out(&mut pile, 1, 2), Err(Stop::Absent(2)));

@@ -2,7 +2,7 @@
 
 use costs::Plain;
 use hours::{HourChain, HourRow};
-use layers::Closing;
+use layers::Draft;
 use makes::ArcTable;
 use networks::{Lockout, Stop};
 use runs::{Call, Outcome};
@@ -14,10 +14,10 @@ use tests_kit::{ZERO, bounds, is_least, row, run_all, triangle};
 fn closing_in_a_pile(rt: HostRuntime) -> Result<(), Fail> {
     let mut rows = [row(1, 2, 0, 5, 1)];
     let table = Lockout::new(ArcTable::new(2, 1, &mut rows));
-    let mut closing = Closing::new(table, bounds(0, 1_000_000)?, Plain { units: -10 });
-    assert!(rt; closing.supply(1, bounds(0, 9)?).is_ok());
-    assert!(rt; closing.demand(2, bounds(0, 4)?).is_ok());
-    let mut net = Lockout::new(closing);
+    let mut draft = Draft::new(table, bounds(0, 1_000_000)?, Plain { units: -10 });
+    assert!(rt; draft.supply(1, bounds(0, 9)?).is_ok());
+    assert!(rt; draft.demand(2, bounds(0, 4)?).is_ok());
+    let mut net = Lockout::new(draft.close());
     let calls = [
         Call::Settle {
             budget: FULL_BUDGET,
@@ -53,7 +53,8 @@ fn closing_in_a_pile(rt: HostRuntime) -> Result<(), Fail> {
 fn triangle_in_a_pile(rt: HostRuntime) -> Result<(), Fail> {
     let mut rows = triangle();
     let table = Lockout::new(ArcTable::new(3, 4, &mut rows));
-    let mut net = Lockout::new(Closing::new(table, bounds(0, 0)?, Plain { units: 0 }));
+    let closing = Draft::new(table, bounds(0, 0)?, Plain { units: 0 }).close();
+    let mut net = Lockout::new(closing);
     let calls = [
         Call::TakeOut { layer: 1, arc: 3 },
         Call::Settle {
@@ -137,7 +138,8 @@ fn two_hours_alone(rt: HostRuntime) -> Result<(), Fail> {
 fn hours_in_a_pile(rt: HostRuntime) -> Result<(), Fail> {
     let mut rows = day();
     let chain = Lockout::new(HourChain::new(2, &mut rows));
-    let mut net = Lockout::new(Closing::new(chain, bounds(0, 0)?, Plain { units: 0 }));
+    let closing = Draft::new(chain, bounds(0, 0)?, Plain { units: 0 }).close();
+    let mut net = Lockout::new(closing);
     let calls = [
         Call::TakeOut { layer: 1, arc: 7 },
         Call::Settle {
