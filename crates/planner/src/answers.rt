@@ -1,5 +1,12 @@
 // The text of an answer: a line each for the total and every flow, for every node of a cut, or for a refusal.
 
+ghost use Rattle.std.specs.Prelude.{◌≡◌, ◌++◌, OnOk, IfOk, IfSome, Err, codes};
+ghost use Rattle.std.specs.String.{string_bytes};
+ghost use Rattle.files.specs.declared.faults.FileFault.{FileFault};
+ghost use Rattle.files.specs.declared.faults.ReadStop.TheVariants.{Fault};
+ghost use Rattle.files.specs.Tables.{counts_of};
+ghost use Rattle.planner.specs.Texts.{flow_lines, cut_lines, refusal_line, answer_text};
+
 use crate::settling::settle_file;
 use costs::{CostKind, Plain, TwoTier};
 use files::{FileCost, Header, ReadStop, read_header};
@@ -8,14 +15,18 @@ use search::Answer;
 use std::alloc::{AllocError, Global};
 use std::fmt::Display;
 
-fn write_flow(out: &mut String, flow: &[i32]) -> Result<(), AllocError> {
+fn write_flow(out: &mut String, flow: &[i32]) -> Result<(), AllocError>
+    ensures { OnOk result (string_bytes out.new ≡ string_bytes out.old ++ flow_lines 1 flow.now) }
+{
     for (i, carried) in flow.iter().enumerate() {
         writeln!(out, "(flow {} {carried})", i + 1)?;
     }
     Ok(())
 }
 
-fn write_cut(out: &mut String, marks: &[u8]) -> Result<(), AllocError> {
+fn write_cut(out: &mut String, marks: &[u8]) -> Result<(), AllocError>
+    ensures { OnOk result (string_bytes out.new ≡ string_bytes out.old ++ cut_lines 1 marks.now) }
+{
     for (i, mark) in marks.iter().enumerate() {
         if *mark == 1 {
             writeln!(out, "(cut {})", i + 1)?;
@@ -24,22 +35,36 @@ fn write_cut(out: &mut String, marks: &[u8]) -> Result<(), AllocError> {
     Ok(())
 }
 
+fn write_none(out: &mut String, marks: &[u8]) -> Result<(), AllocError>
+    ensures { OnOk result (string_bytes out.new ≡ string_bytes out.old ++ (codes "(none)\n" ++ cut_lines 1 marks.now)) }
+{
+    writeln!(out, "(none)")?;
+    write_cut(out, marks)
+}
+
+fn write_least<C: Display + Drop>(
+    out: &mut String,
+    total: C,
+    flow: &[i32],
+) -> Result<(), AllocError>
+    ensures { OnOk result (IfSome (C.Display.output total) (λ t. string_bytes out.new ≡ string_bytes out.old ++ ((codes "(least " ++ t ++ codes ")\n") ++ flow_lines 1 flow.now))) }
+{
+    writeln!(out, "(least {total})")?;
+    write_flow(out, flow)
+}
+
 fn write_answer<C: Display + Drop>(
     out: &mut String,
     settled: Result<Answer<C>, ReadStop>,
     flow: &[i32],
     marks: &[u8],
-) -> Result<(), AllocError> {
+) -> Result<(), AllocError>
+    ensures { OnOk result (IfSome (answer_text C.Display.output settled flow.now marks.now) (λ t. string_bytes out.new ≡ string_bytes out.old ++ t)) }
+{
     match settled {
-        Ok(Answer::Least { total, .. }) => {
-            writeln!(out, "(least {total})")?;
-            write_flow(out, flow)
-        }
+        Ok(Answer::Least { total, .. }) => { write_least(out, total, flow) }
         Ok(Answer::Paused { laps }) => writeln!(out, "(paused {laps})"),
-        Ok(Answer::None) => {
-            writeln!(out, "(none)")?;
-            write_cut(out, marks)
-        }
+        Ok(Answer::None) => { write_none(out, marks) }
         Err(stop) => writeln!(out, "(refused {stop})"),
     }
 }
@@ -69,7 +94,9 @@ fn write_plan<C: FileCost + Display>(
 }
 
 // What the program prints for a file of this text; fails only where memory does.
-pub fn answer(heap: Global, text: &[u8]) -> Result<String, AllocError> {
+pub fn answer(heap: Global, text: &[u8]) -> Result<String, AllocError>
+    ensures refused { (fault : FileFault) → counts_of text.now ≡ Err fault → IfOk result (λ out. string_bytes out ≡ refusal_line (Fault fault)) }
+{
     let mut out = String::new(heap);
     match read_header(text) {
         Ok(header) if header.tiers == 2 => write_plan::<TwoTier>(heap, &mut out, text, header)?,
