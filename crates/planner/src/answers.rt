@@ -62,9 +62,9 @@ fn write_answer<C: Display + Drop>(
     ensures { OnOk result (IfSome (answer_text C.Display.output settled flow.now marks.now) (λ t. string_bytes out.new ≡ string_bytes out.old ++ t)) }
 {
     match settled {
-        Ok(Answer::Least { total, .. }) => { write_least(out, total, flow) }
+        Ok(Answer::Least { total, .. }) => write_least(out, total, flow),
         Ok(Answer::Paused { laps }) => writeln!(out, "(paused {laps})"),
-        Ok(Answer::None) => { write_none(out, marks) }
+        Ok(Answer::None) => write_none(out, marks),
         Err(stop) => writeln!(out, "(refused {stop})"),
     }
 }
