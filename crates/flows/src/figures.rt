@@ -1,5 +1,5 @@
 // Worked figures: small networks, the flow that each is opened at, and what the rules say of it. Each
-// figure is proved right where it stands in its table; a figure is added by adding it there.
+// figure is proved right in the one list; a figure is added by adding it there.
 
 ghost use Rattle.flows.specs.Figures.{AllRight};
 

@@ -10,8 +10,9 @@
 // never refused and leaves the network as it was.
 //
 // Not promised here: that the rows of a network are fit. Rows hold plain numbers, and calls on a plan
-// look at them first; `check_counts` is the test of counts that they share with makes and layers. Nor that a lock-out is let go empty: its network is lent or owned, and a tag that
-// outlives it still cannot be dropped.
+// look at them first; `check_counts` is the test of counts that they share with makes and layers. Nor that
+// a lock-out is let go empty: its network is lent or owned, and a tag that outlives it still cannot be
+// dropped.
 #![tactic(auto)]
 
 mod bounds;

@@ -1,11 +1,10 @@
 // The text of an answer: a line each for the total and every flow, for every node of a cut, or for a refusal.
 
-ghost use Rattle.std.specs.Prelude.{◌≡◌, ◌++◌, OnOk, IfOk, IfSome, Err, codes};
+ghost use Rattle.std.specs.Prelude.{◌≡◌, ◌++◌, length, OnOk, IfOk, IfSome, Ok, codes};
 ghost use Rattle.std.specs.String.{string_bytes};
-ghost use Rattle.files.specs.declared.faults.FileFault.{FileFault};
-ghost use Rattle.files.specs.declared.faults.ReadStop.TheVariants.{Fault};
-ghost use Rattle.files.specs.Tables.{counts_of};
-ghost use Rattle.planner.specs.Texts.{flow_lines, cut_lines, refusal_line, answer_text};
+ghost use Rattle.files.specs.Tables.{counts, counts_of, table_in};
+ghost use Rattle.planner.specs.Texts.{flow_lines, cut_lines, answer_text};
+ghost use Rattle.planner.specs.Files.{Blank, TableText, FileText};
 
 use crate::settling::settle_file;
 use costs::{CostKind, Plain, TwoTier};
@@ -69,33 +68,58 @@ fn write_answer<C: Display + Drop>(
     }
 }
 
-// Settles a file with these counts, and writes the answer.
+// Settles a file with these counts over the lent tables, and writes the answer.
+fn write_settled<C: FileCost + Display>(
+    heap: Global,
+    out: &mut String,
+    text: &[u8],
+    header: Header,
+    rows: &mut [Row<C>],
+    flow: &mut [i32],
+    needs: &mut [i32],
+    prices: &mut [C],
+    marks: &mut [u8],
+) -> Result<(), AllocError>
+    requires first { counts_of text.now ≡ Ok (counts header) }
+    requires rows { length rows.old ≡ header.arcs }
+    requires blank { Blank (counts header) flow.old needs.old prices.old marks.old }
+    ensures { OnOk result (TableText C.CostKind.kind C.Display.output (table_in C.FileCost.numbers header.arcs text.now) (λ t. string_bytes out.new ≡ string_bytes out.old ++ t)) }
+{
+    let settled = settle_file(heap, text, rows, flow, needs, prices, marks)?;
+    write_answer(out, settled, flow, marks)
+}
+
+// The same, with tables on the heap.
 fn write_plan<C: FileCost + Display>(
     heap: Global,
     out: &mut String,
     text: &[u8],
     header: Header,
-) -> Result<(), AllocError> {
+) -> Result<(), AllocError>
+    requires { counts_of text.now ≡ Ok (counts header) }
+    ensures { OnOk result (TableText C.CostKind.kind C.Display.output (table_in C.FileCost.numbers header.arcs text.now) (λ t. string_bytes out.new ≡ string_bytes out.old ++ t)) }
+{
     let mut rows = vec![in heap; Row::new(0, 0, 0, 0, C::zero()); header.arcs]?;
     let mut flow = vec![in heap; 0i32; header.arcs]?;
     let mut needs = vec![in heap; 0i32; header.nodes]?;
     let mut prices = vec![in heap; C::zero(); header.nodes]?;
     let mut marks = vec![in heap; 0u8; header.nodes]?;
-    let settled = settle_file(
+    write_settled(
         heap,
+        out,
         text,
+        header,
         &mut rows,
         &mut flow,
         &mut needs,
         &mut prices,
         &mut marks,
-    )?;
-    write_answer(out, settled, &flow, &marks)
+    )
 }
 
 // What the program prints for a file of this text; fails only where memory does.
 pub fn answer(heap: Global, text: &[u8]) -> Result<String, AllocError>
-    ensures refused { (fault : FileFault) → counts_of text.now ≡ Err fault → IfOk result (λ out. string_bytes out ≡ refusal_line (Fault fault)) }
+    ensures { IfOk result (λ out. FileText text.now (counts_of text.now) (string_bytes out)) }
 {
     let mut out = String::new(heap);
     match read_header(text) {

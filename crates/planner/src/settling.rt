@@ -1,11 +1,14 @@
 // A plan opened and settled, by a list of that one call.
 
-ghost use Rattle.std.specs.Prelude.{◌≡◌, [], ◌∷◌};
+ghost use Rattle.std.specs.Prelude.{◌≡◌, [], ◌∷◌, length, IfOk};
+ghost use Rattle.makes.specs.Tables.{rows_net};
+ghost use Rattle.files.specs.Tables.{table_in};
 ghost use Rattle.runs.specs.declared.calls.Outcome.TheVariants.{Done};
 ghost use Rattle.runs.specs.States.{state};
 ghost use Rattle.runs.specs.Events.{came, done};
 ghost use Rattle.plans.specs.Keeping.{settle_came};
 ghost use Rattle.planner.specs.Once.{full_settle, SettlesOnce, SettlesOrFails};
+ghost use Rattle.planner.specs.Files.{SettledFile};
 
 use costs::CostKind;
 use files::{FileCost, Header, ReadStop, read_table};
@@ -87,7 +90,9 @@ pub fn settle_file<C: FileCost>(
     needs: &mut [i32],
     prices: &mut [C],
     marks: &mut [u8],
-) -> Result<Result<Answer<C>, ReadStop>, AllocError> {
+) -> Result<Result<Answer<C>, ReadStop>, AllocError>
+    ensures { IfOk result (λ r. SettledFile C.CostKind.kind (λ rows nodes arcs. state (rows_net nodes arcs rows) flow.old needs.old prices.old marks.old) rows.old (table_in C.FileCost.numbers (length rows.old) text.now) r flow.new marks.new) }
+{
     match read_table(text, rows) {
         Ok(Header { nodes, arcs, .. }) => {
             let mut net = ArcTable::new(nodes, arcs, rows);

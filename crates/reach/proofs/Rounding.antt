@@ -16,7 +16,8 @@ use Rattle.reach.specs.Scans.{is_labelled}
 use Rattle.reach.specs.Rises.{Risen, Changed}
 use Rattle.reach.specs.declared.rounds.Over.{Over}
 use Rattle.labels.specs.Searches.{Searching}
-use Rattle.reach.specs.Rounds.{large, NoHigher, Repriced, Advanced}
+use Rattle.flows.specs.searching.Prices.{Eased}
+use Rattle.reach.specs.Rounds.{large, Repriced, Advanced}
 use Rattle.reach.proofs.Turning.{none_higher, same_source}
 use Rattle.flows.specs.searching.Prices.{SmallInside}
 
@@ -114,7 +115,7 @@ module _ {C : Type 0} (K : Kind C) (laws : Laws K) (old : List C) (tame : Bounde
       go false q = omega (arith, outside_small ps ls held (k + 1) (omega arith) (omega (arith, held.long)) q)
 
 -- no higher than what is no higher
-pub higher_both : {C : Type 0} (K : Kind C) (arcs : List (Arc C)) (flow : List ℤ) (ps qs rs : List C) → NoHigher K arcs flow ps qs → NoHigher K arcs flow qs rs → NoHigher K arcs flow ps rs
+pub higher_both : {C : Type 0} (K : Kind C) (arcs : List (Arc C)) (flow : List ℤ) (ps qs rs : List C) → Eased K arcs flow ps qs → Eased K arcs flow qs rs → Eased K arcs flow ps rs
 higher_both K arcs flow ps qs rs h k =
     each_from (λ a f. kilter_number K (reduced K rs a) a f ≤ kilter_number K (reduced K ps a) a f) arcs flow (each_long (λ a f. kilter_number K (reduced K qs a) a f ≤ kilter_number K (reduced K ps a) a f) arcs flow h)
     (λ i a f is at.
@@ -128,7 +129,7 @@ higher_both K arcs flow ps qs rs h k =
 -- the invariant: besides, no kilter number rose, the labelling is good and the chosen step is still wanted
 pub record Rounding {C : Type 0} (K : Kind C) (arcs : List (Arc C)) (flow : List ℤ) (old ps : List C) (chosen : Step) (ls : Labels) : Type 0 where
   pub held : Held K old ps ls
-  pub eased : NoHigher K arcs flow old ps
+  pub eased : Eased K arcs flow old ps
   pub good : Good K arcs flow ps chosen.arc ls
   pub wanted : Chosen K arcs flow ps chosen (node_at ls 0)
 

@@ -22,7 +22,8 @@ use Rattle.reach.specs.declared.rounds.Over.TheVariants as over
 use Rattle.reach.specs.Scans.{is_labelled, AtMost, BestIs, Sighted, Ripe, link_over}
 use Rattle.reach.specs.Rises.{own_limit_at, next_of, NextIs, Risen}
 use Rattle.labels.specs.Searches.{Searching}
-use Rattle.reach.specs.Rounds.{NoHigher, Advanced}
+use Rattle.flows.specs.searching.Prices.{Eased}
+use Rattle.reach.specs.Rounds.{Advanced}
 use Rattle.reach.proofs.Repriced.{good_raised}
 use Rattle.reach.proofs.Ripening.{crossed, slack_is, ripe_raised, link_near, link_node, link_room, link_good, link_grown, link_more}
 use Rattle.reach.proofs.Landing.{rise_small, landing}
@@ -67,7 +68,7 @@ module _ {C : Type 0} (K : Kind C) where
   own_up_to laws (Some o) e h = let r : o ≡ e = cc in subst (λ z. K.le e z ≡ true) (sym r) (le_refl K laws e)
 
 -- at the same prices no number is higher
-pub none_higher : {C : Type 0} (K : Kind C) (arcs : List (Arc C)) (flow : List ℤ) (ps : List C) → length flow ≡ length arcs → NoHigher K arcs flow ps ps
+pub none_higher : {C : Type 0} (K : Kind C) (arcs : List (Arc C)) (flow : List ℤ) (ps : List C) → length flow ≡ length arcs → Eased K arcs flow ps ps
 none_higher K arcs flow ps long = each_from (λ a f. kilter_number K (reduced K ps a) a f ≤ kilter_number K (reduced K ps a) a f) arcs flow long (λ i a f is at. omega arith)
 
 -- the source stays

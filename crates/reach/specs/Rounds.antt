@@ -1,12 +1,13 @@
 -- What the search for one chain owes: how prices change, and how it ends.
-use Rattle.std.specs.Prelude.{◌≡◌, ℕ, ◌+◌, ◌≤◌, false, List, length, ℤ, pos, Ok, Err, Result, slice_index_or}
+use Rattle.std.specs.Prelude.{◌≡◌, ℕ, ◌+◌, false, List, length, ℤ, pos, Ok, Err, Result, slice_index_or}
 use Rattle.costs.specs.Kinds.{Kind}
 use Rattle.networks.specs.declared.network.Arc.{Arc}
 use Rattle.networks.specs.Nets.{IsAt}
 use Rattle.flows.specs.declared.steps.Step.{Step}
 use Rattle.flows.specs.Flows.{EachArc}
-use Rattle.flows.specs.Kilter.{reduced, kilter_number, out_of_kilter}
+use Rattle.flows.specs.Kilter.{reduced, out_of_kilter}
 use Rattle.flows.specs.searching.Fits.{Bounded, found_limit}
+use Rattle.flows.specs.searching.Prices.{Eased}
 use Rattle.flows.specs.searching.Ways.{Stuck, Strained}
 use Rattle.labels.specs.declared.labelling.Labels.{Labels}
 use Rattle.labels.specs.Good.{count, node_at, Labelled, Good, Grown}
@@ -20,15 +21,11 @@ use Rattle.reach.specs.Rises.{Changed}
 abbrev pub large : ℕ
 large = 1000000000000
 
--- no arc's kilter number is higher at the prices qs than at ps
-abbrev pub NoHigher : {C : Type 0} → Kind C → List (Arc C) → List ℤ → List C → List C → Type 0
-NoHigher K arcs flow ps qs = EachArc (λ a f. kilter_number K (reduced K qs a) a f ≤ kilter_number K (reduced K ps a) a f) arcs flow
-
 -- the prices qs in place of ps: no arc's kilter number rose, and no price is too large to tidy
 pub record Repriced {C : Type 0} (K : Kind C) (arcs : List (Arc C)) (flow : List ℤ) (ps qs : List C) : Type 0 where
   pub long : length qs ≡ length ps
   pub small : Bounded K found_limit qs
-  pub eased : NoHigher K arcs flow ps qs
+  pub eased : Eased K arcs flow ps qs
 
 -- the sought node is labelled, so that the labels and the chosen step make a lap
 pub record ChainFound {C : Type 0} (K : Kind C) (arcs : List (Arc C)) (flow : List ℤ) (prices : List C) (chosen : Step) (ls : Labels) : Type 0 where
@@ -56,6 +53,6 @@ RoundEnds K arcs flow prices chosen ls ms (Err over) = EndsWith K arcs flow pric
 pub record Advanced {C : Type 0} (K : Kind C) (arcs : List (Arc C)) (flow : List ℤ) (ps qs : List C) (chosen : Step) (ls ms : Labels) (r : Result (Unit {0}) Over) : Type 0 where
   pub long : length qs ≡ length ps
   pub changed : Changed K (length ps) ls ps qs
-  pub eased : NoHigher K arcs flow ps qs
+  pub eased : Eased K arcs flow ps qs
   pub grown : Grown ls ms
   pub ends : RoundEnds K arcs flow qs chosen ls ms r

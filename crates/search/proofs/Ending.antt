@@ -3,7 +3,8 @@ use Rattle.std.proofs.Common.{◌≡◌, ℕ, ◌+◌, List, ℤ, sym, subst}
 use Rattle.costs.specs.Kinds.{Kind, Laws}
 use Rattle.networks.specs.declared.network.Arc.{Arc}
 use Rattle.search.specs.Ready.{Ready}
-use Rattle.search.specs.Going.{Eased, KilterAt, Going}
+use Rattle.flows.specs.searching.Prices.{Eased}
+use Rattle.search.specs.Going.{KilterAt, Going}
 use Rattle.search.proofs.Steps.{going_repriced, going_on, going_none}
 
 module _ {C : Type 0} {K : Kind C} (laws : Laws K) {N : ℕ} {arcs : List (Arc C)} {found : List ℤ} {i laps : ℕ} {f : List ℤ} {ps : List C} (before : Going K N arcs found i laps f ps)

@@ -7,7 +7,7 @@ use Rattle.labels.specs.declared.labelling.Labels.{Labels}
 use Rattle.labels.specs.Good.{Begun, Good}
 use Rattle.reach.specs.Rounds.{Repriced}
 use Rattle.search.specs.Ready.{Ready}
-use Rattle.search.specs.Going.{Eased}
+use Rattle.flows.specs.searching.Prices.{Eased}
 use Rattle.search.proofs.Taming.{eased_both}
 
 pub good_begun : {C : Type 0} (K : Kind C) (arcs : List (Arc C)) (flow : List ℤ) (prices : List C) (chosen source : ℕ) (ls : Labels) → 1 ≤ source → source ≤ length prices → length prices ≤ 256 → Begun source ls → Good K arcs flow prices chosen ls

@@ -12,7 +12,8 @@ use Rattle.flows.proofs.Lapping.{laps_more}
 use Rattle.flows.proofs.Wants.{kilter_stays}
 use Rattle.labels.specs.Ways.{GoneRound}
 use Rattle.search.specs.Ready.{Ready}
-use Rattle.search.specs.Going.{Eased, KilterAt, Going}
+use Rattle.flows.specs.searching.Prices.{Eased}
+use Rattle.search.specs.Going.{KilterAt, Going}
 
 module _ {C : Type 0} (K : Kind C) (laws : Laws K) (N : ℕ) (arcs : List (Arc C)) (found : List ℤ) (i laps : ℕ) (f : List ℤ) (ps qs : List C) (going : Going K N arcs found i laps f ps) (eased : Eased K arcs f ps qs) where
   falls : kilter_sum K qs arcs f ≤ kilter_sum K ps arcs f

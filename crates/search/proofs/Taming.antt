@@ -10,7 +10,7 @@ use Rattle.tidy.specs.Picks.{Tidied}
 use Rattle.tidy.proofs.Sounds.{sound_from}
 use Rattle.reach.specs.Rounds.{large}
 use Rattle.search.specs.Ready.{Ready}
-use Rattle.search.specs.Going.{Eased}
+use Rattle.flows.specs.searching.Prices.{Eased}
 
 module _ {C : Type 0} (K : Kind C) where
   pub eased_same : (arcs : List (Arc C)) (flow : List ℤ) (ps : List C) → length flow ≡ length arcs → Eased K arcs flow ps ps

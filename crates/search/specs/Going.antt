@@ -5,7 +5,7 @@ use Rattle.networks.specs.declared.network.Arc.{Arc}
 use Rattle.networks.specs.Nets.{IsAt}
 use Rattle.flows.specs.declared.steps.Step.{Step}
 use Rattle.flows.specs.Flows.{EachArc}
-use Rattle.flows.specs.Kilter.{reduced, kilter_number, kilter_sum, lap_limit, out_of_kilter}
+use Rattle.flows.specs.Kilter.{reduced, kilter_sum, lap_limit, out_of_kilter}
 use Rattle.flows.specs.Laps.{Lap, Better, Laps}
 use Rattle.search.specs.Ready.{Ready}
 use Rattle.flows.specs.Cuts.{marked}
@@ -15,10 +15,6 @@ use Rattle.search.specs.declared.seek.Halt.{Halt}
 use Rattle.search.specs.declared.seek.Halt.TheVariants as halt
 use Rattle.search.specs.declared.attempts.Tried.{Tried}
 use Rattle.search.specs.declared.attempts.Tried.TheVariants.{Kilter, Lapped, Short, Cut}
-
--- from the prices ps to qs no arc's kilter number rose
-abbrev pub Eased : {C : Type 0} → Kind C → List (Arc C) → List ℤ → List C → List C → Type 0
-Eased K arcs flow ps qs = EachArc (λ a f. kilter_number K (reduced K qs a) a f ≤ kilter_number K (reduced K ps a) a f) arcs flow
 
 -- arc i is in kilter
 abbrev pub KilterAt : {C : Type 0} → Kind C → List (Arc C) → List ℤ → List C → ℕ → Type 0

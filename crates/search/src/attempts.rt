@@ -7,7 +7,8 @@ ghost use Rattle.flows.specs.searching.Fits.{Bounded};
 ghost use Rattle.reach.specs.Scans.{is_labelled};
 ghost use Rattle.reach.specs.Rounds.{large};
 ghost use Rattle.search.specs.Ready.{Ready};
-ghost use Rattle.search.specs.Going.{Eased, KilterAt, Wanted, Attempted};
+ghost use Rattle.flows.specs.searching.Prices.{Eased};
+ghost use Rattle.search.specs.Going.{KilterAt, Wanted, Attempted};
 
 use costs::CostKind;
 use flows::{Step, View, amiss, far_end};

@@ -30,9 +30,10 @@ Bounded K b prices = (k : ℕ) → k < length prices → K.size (slice_index_or 
 abbrev pub found_limit : ℕ
 found_limit = 600000000000000
 
--- the largest size that a price has while prices are tidied, and that one change of prices or one reduced cost has
+-- the largest size that a price has while prices are tidied
 abbrev pub price_limit : ℕ
 price_limit = 1250000000000000
 
+-- the largest size of one change of prices, and of a reduced cost
 abbrev pub change_limit : ℕ
 change_limit = 2600000000000000

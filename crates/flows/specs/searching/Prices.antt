@@ -31,7 +31,11 @@ SignsKept K arcs ps qs = AllByRecursion (λ a. SignKept K (reduced K ps a) (redu
 abbrev pub nearer : {C : Type 0} → Kind C → C → C → Bool
 nearer K c d = cond (K.le K.zero d) (K.le K.zero c && K.le c d) (K.le K.zero c || K.le d c)
 
+-- from the prices ps to qs no arc's kilter number rose
+abbrev pub Eased : {C : Type 0} → Kind C → List (Arc C) → List ℤ → List C → List C → Type 0
+Eased K arcs flow ps qs = EachArc (λ a f. kilter_number K (reduced K qs a) a f ≤ kilter_number K (reduced K ps a) a f) arcs flow
+
 -- where no sign turns, no kilter number rises
 abbrev pub KeptSignsEase : {C : Type 0} → Kind C → Type 0
 KeptSignsEase {C} K = (arcs : List (Arc C)) (flow : List ℤ) (ps qs : List C) → AllByRecursion (λ a. a.lo ≤ℤ a.hi) arcs → length flow ≡ length arcs → SignsKept K arcs ps qs →
-    EachArc (λ a f. kilter_number K (reduced K qs a) a f ≤ kilter_number K (reduced K ps a) a f) arcs flow
+    Eased K arcs flow ps qs
