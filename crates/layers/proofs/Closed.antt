@@ -232,7 +232,7 @@ module _ {N C : Type 0} (meaning : N → Net C) (zero : C) (over : Closing N C) 
 
     relocked_lower : (x y : ℕ) → x ≤ count → y ≤ count → (s z : Option Told) → s ≡ z → closing_net (unless s n (relocked n l (relined x y))) zero es b c ≡ unless z net (relocked net l (relined x y))
     relocked_lower x y hx hy s z q =
-        let put = ap (λ (os : List Lock). record { nodes = n.nodes + 2; arcs = n.arcs ++ own; locks = os }) (with_through count l x y hx hy n.locks) in
+        let put = ap (λ (os : List Lock). record { nodes = n.nodes + 2; arcs = n.arcs ++ own; locks = os }) (with_through count l x y n.locks) in
         let same : closing_net (relocked n l (relined x y)) zero es b c ≡ relocked net l (relined x y) = ap (λ o. unless o no_net (closed_net (relocked n l (relined x y)) zero es b c)) e ∙ put ∙ ap (λ m. relocked m l (relined x y)) (fit e) in
         past_unless (λ m. closing_net m zero es b c) s n (relocked n l (relined x y)) ∙ ap₂ (λ o m. unless o net m) q same
 

@@ -28,14 +28,9 @@ entry_arc nodes zero e = record { from = (ends nodes e.side e.node).0; to = (end
 abbrev pub return_arc : {C : Type 0} → ℕ → Bounds → C → Arc C
 return_arc nodes b c = record { from = nodes + 1; to = nodes + 2; lo = b.lo; hi = b.hi; cost = c; held = false; fixed = false }
 
--- the lines that are free or name one of the arcs up to n
-abbrev pub lines_within : ℕ → List ℕ → List ℕ
-lines_within n [] = []
-lines_within n (x ∷ xs) = cond (nat_le x n) (x ∷ lines_within n xs) (lines_within n xs)
-
--- a lock-out stands over no more than n arcs, and has none out above those
+-- a lock-out stands over no more than n arcs
 abbrev pub within : ℕ → Lock → Lock
-within n o = record { over = min o.over n; lines = lines_within n o.lines }
+within n o = record { over = min o.over n; lines = o.lines }
 
 -- after the arcs below come the entries and then the return arc; a lock-out below stands over arcs below only
 abbrev pub closed_net : {C : Type 0} → Net C → C → List Entry → Bounds → C → Net C

@@ -1,11 +1,11 @@
 -- An arc that was taken out can be handed back at once, and the network is then as it was.
-use Rattle.std.proofs.Common.{◌≡◌, ℕ, suc, ◌<◌, ◌≤◌, Bool, true, false, cond, ◌||◌, eqb, ltb, List, [], ◌∷◌, length, set, Some, None, Ok, Err, Option, Result, sym, refl, ap, ◌∙◌, arith}
+use Rattle.std.proofs.Common.{◌≡◌, ℕ, suc, ◌<◌, ◌≤◌, Bool, true, false, cond, eqb, List, [], ◌∷◌, length, set, Some, None, Ok, Err, Option, Result, sym, refl, ap, ◌∙◌, arith}
 use Rattle.std.proofs.lemmas.List.{length-set, set-set, set-get_or}
-use Rattle.std.proofs.lemmas.Bool.{cond-true, cond-false, lt-ltb, ltb-true, ltb-false, or_parts}
+use Rattle.std.proofs.lemmas.Bool.{cond-true, cond-false, lt-ltb, ltb-true, ltb-false}
 use Rattle.networks.specs.declared.stops.Stop.{Stop}
 use Rattle.networks.specs.declared.tags.Tag.{Tag}
 use Rattle.networks.specs.Answers.{Told, answer, answer_back, returned, unless}
-use Rattle.networks.specs.Nets.{Lock, Net, place, has, out_at, lock_at, with_lock, relocked, line_stop, take_out_stop, relined, taken, back_stop, hand_back_stop, handed_back}
+use Rattle.networks.specs.Nets.{Lock, Net, place, has, lacks, out_at, lock_at, with_lock, relocked, line_stop, take_out_stop, relined, taken, back_stop, hand_back_stop, handed_back}
 use Rattle.networks.proofs.Places.{place_at, place_written}
 
 -- ---- at the lock-out itself
@@ -20,12 +20,12 @@ here : (o : Lock) (a : ℕ) → line_stop a (Some o) ≡ None → (out_at (relin
 here o a e =
     let xs = o.lines in
     let k = place 0 xs in
-    let f = free (eqb a 0 || ltb o.over a) (has a xs) (has 0 xs) (8, a) (9, a) (11, 0) e in
+    let f = free (lacks o a) (has a xs) (has 0 xs) (8, a) (9, a) (11, 0) e in
     let nowhere : length xs ≤ place a xs = ltb-false _ _ f.1 in
     let room : k < length xs = ltb-true _ _ f.2 in
     let at : place a (set xs k a) ≡ k = place_written a xs nowhere room in
     let long = length-set xs k a in (
-      cond-false _ _ _ (or_parts (eqb a 0) (ltb o.over a) f.0).0 ∙ lt-ltb (place a (set xs k a)) (length (set xs k a)) (omega (arith, long)),
+      cond-false _ _ _ f.0 ∙ lt-ltb (place a (set xs k a)) (length (set xs k a)) (omega (arith, long)),
       ap (λ (ys : List ℕ). record { over = o.over; lines = ys }) (ap (λ i. set (set xs k a) i 0) at ∙ set-set xs k a 0 ∙ ap (set xs k) (sym (place_at 0 xs room)) ∙ set-get_or xs k 0),
     )
 

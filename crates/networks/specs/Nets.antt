@@ -52,9 +52,13 @@ line_with x ys = cond (has x ys) (Some (place x ys)) None
 abbrev pub arc_line : ℕ → List ℕ → Option ℕ
 arc_line a ys = cond (a == 0) None (line_with a ys)
 
--- arc a is out at one lock-out
+-- a lock-out stands over no such arc
+abbrev pub lacks : Lock → ℕ → Bool
+lacks o a = a == 0 || nat_lt o.over a
+
+-- arc a is out at one lock-out: it is one of its arcs, and a line holds it
 abbrev pub out_at : Lock → ℕ → Bool
-out_at o a = cond (a == 0) false (has a o.lines)
+out_at o a = cond (lacks o a) false (has a o.lines)
 
 -- arc a is out at some lock-out
 abbrev pub is_out : List Lock → ℕ → Bool
@@ -123,7 +127,7 @@ relocked n l f = record { nodes = n.nodes; arcs = n.arcs; locks = with_lock n.lo
 -- take-out: 8 where the lock-out does not stand over such an arc, 9 where it is out there, 11 where no line is free
 abbrev pub line_stop : ℕ → Option Lock → Option Told
 line_stop a None = Some (8, a)
-line_stop a (Some o) = cond (a == 0 || nat_lt o.over a) (Some (8, a)) (cond (has a o.lines) (Some (9, a)) (cond (has 0 o.lines) None (Some (11, 0))))
+line_stop a (Some o) = cond (lacks o a) (Some (8, a)) (cond (has a o.lines) (Some (9, a)) (cond (has 0 o.lines) None (Some (11, 0))))
 
 abbrev pub take_out_stop : {C : Type 0} → Net C → ℕ → ℕ → Option Told
 take_out_stop n l a = line_stop a (lock_at n.locks l)

@@ -69,7 +69,7 @@ impl<N: Network> Lockout<N> {
     fn is_out(&self, a: usize) -> bool
         ensures { result ≡ out_at (lock_over (N.Network.meaning self.now.below).arcs self.now.lines) a }
     {
-        arc_line(&self.lines, a).is_some()
+        a <= self.below.arcs() && arc_line(&self.lines, a).is_some()
     }
 }
 
@@ -125,11 +125,13 @@ impl<N: Network> Network for Lockout<N> {
             return self.below.hand_back(layer, tag);
         }
         let a = tag.arc();
-        let Some(line) = arc_line(&self.lines, a) else {
-            return Err((Stop::NotOut(a), tag));
-        };
-        self.lines[line] = 0;
-        tag.spend();
-        Ok(())
+        match arc_line(&self.lines, a) {
+            Some(line) if a <= self.below.arcs() => {
+                self.lines[line] = 0;
+                tag.spend();
+                Ok(())
+            }
+            _ => Err((Stop::NotOut(a), tag)),
+        }
     }
 }

@@ -1,9 +1,9 @@
 -- Which arcs are out at a lock-out after a take-out and after a hand-back.
-use Rattle.std.proofs.Common.{◌≡◌, ℕ, zero, suc, ◌<◌, ◌≤◌, Bool, true, false, cond, ◌||◌, eqb, ltb, ◌⊎◌, List, [], ◌∷◌, length, get_or, set, Some, None, sym, refl, ap, ◌∙◌, subst, inl, inr, ⊎_elim, arith}
+use Rattle.std.proofs.Common.{◌≡◌, ℕ, zero, suc, ◌<◌, ◌≤◌, Bool, true, false, cond, eqb, ltb, ◌⊎◌, List, [], ◌∷◌, length, get_or, set, Some, None, sym, refl, ap, ◌∙◌, subst, inl, inr, ⊎_elim, arith}
 use Rattle.std.proofs.lemmas.List.{length-set, get_or-set_same, get_or-set_other}
 use Rattle.std.proofs.lemmas.Bool.{cond-true, cond-false, eqb-false, eq-eqb, lt-ltb, ltb-true, or_parts, cases_eq, true≢false}
 use Rattle.networks.specs.Answers.{Told}
-use Rattle.networks.specs.Nets.{Lock, place, has, out_at, relined, line_stop}
+use Rattle.networks.specs.Nets.{Lock, place, has, lacks, out_at, relined, line_stop}
 use Rattle.networks.proofs.Places.{place_at}
 
 -- b stands in the list
@@ -25,22 +25,22 @@ has_holds b xs h = let l : place b xs < length xs = ltb-true _ _ h in (place b x
 holds_has : (b : ℕ) (xs : List ℕ) → Holds xs b → has b xs ≡ true
 holds_has b xs (i, (h, e)) = let l = place_first b xs i h e in lt-ltb (place b xs) (length xs) (omega arith)
 
--- the number names an arc: it is not 0
-abbrev Named : ℕ → Type 0
-Named b = eqb b 0 ≡ false
+-- the number names an arc that the lock-out stands over
+abbrev Names : Lock → ℕ → Type 0
+Names o b = lacks o b ≡ false
 
-out_is : (o : Lock) (b : ℕ) → out_at o b ≡ true → Named b × Holds o.lines b
-out_is o b h = let p = go (eqb b 0) (has b o.lines) h in (p.0, has_holds b o.lines p.1)
+out_is : (o : Lock) (b : ℕ) → out_at o b ≡ true → Names o b × Holds o.lines b
+out_is o b h = let p = go (lacks o b) (has b o.lines) h in (p.0, has_holds b o.lines p.1)
   where
     go : (g t : Bool) → cond g false t ≡ true → (g ≡ false) × (t ≡ true)
     go true t e = absurd cc
     go false t e = (refl, e)
 
-is_out : (o : Lock) (b : ℕ) → Named b → Holds o.lines b → out_at o b ≡ true
+is_out : (o : Lock) (b : ℕ) → Names o b → Holds o.lines b → out_at o b ≡ true
 is_out o b g h = cond-false _ _ _ g ∙ holds_has b o.lines h
 
-not_zero : (o : Lock) (b : ℕ) → Named b → b ≡ 0 → ⊥
-not_zero o b g = eqb-false b 0 g
+not_zero : (o : Lock) (b : ℕ) → Names o b → b ≡ 0 → ⊥
+not_zero o b g = eqb-false b 0 (or_parts (eqb b 0) (ltb o.over b) g).0
 
 -- no arc that is out stands on two lines
 abbrev pub Once : Lock → Type 0
@@ -72,17 +72,17 @@ module _ (o : Lock) (a : ℕ) (ok : line_stop a (Some o) ≡ None) where
   k : ℕ
   k = place 0 o.lines
 
-  over : Named a
-  over = (or_parts (eqb a 0) (ltb o.over a) (free (eqb a 0 || ltb o.over a) (has a o.lines) (has 0 o.lines) (8, a) (9, a) (11, 0) ok).0).0
+  over : Names o a
+  over = (free (lacks o a) (has a o.lines) (has 0 o.lines) (8, a) (9, a) (11, 0) ok).0
 
   nowhere : Holds o.lines a → ⊥
   nowhere h =
-      let no = (free (eqb a 0 || ltb o.over a) (has a o.lines) (has 0 o.lines) (8, a) (9, a) (11, 0) ok).1 in
+      let no = (free (lacks o a) (has a o.lines) (has 0 o.lines) (8, a) (9, a) (11, 0) ok).1 in
       let yes = holds_has a o.lines h in
       true≢false (sym yes ∙ no)
 
   room : place 0 o.lines < length o.lines
-  room = ltb-true _ _ (free (eqb a 0 || ltb o.over a) (has a o.lines) (has 0 o.lines) (8, a) (9, a) (11, 0) ok).2
+  room = ltb-true _ _ (free (lacks o a) (has a o.lines) (has 0 o.lines) (8, a) (9, a) (11, 0) ok).2
 
   empty : get_or o.lines (place 0 o.lines) 0 ≡ 0
   empty = place_at 0 o.lines room
@@ -120,7 +120,7 @@ module _ (o : Lock) (a : ℕ) (ok : line_stop a (Some o) ≡ None) where
       let ej = get_or-set_other o.lines (place 0 o.lines) j a 0 r in
       let li : i < length o.lines = omega (arith, hi, length-set o.lines (place 0 o.lines) a) in
       once i j li (omega (arith, hj, length-set o.lines (place 0 o.lines) a)) (sym ei ∙ same ∙ ej)
-      (is_out o (get_or o.lines i 0) (subst (λ c. Named c) ei p.0) (i, (li, refl))))
+      (is_out o (get_or o.lines i 0) (subst (λ c. Names o c) ei p.0) (i, (li, refl))))
       (cases_eq j (place 0 o.lines))) (cases_eq i (place 0 o.lines))
 
 -- ---- a hand-back that is granted
@@ -160,4 +160,4 @@ module _ (o : Lock) (a : ℕ) (ok : out_at o a ≡ true) where
       let ei = get_or-set_other o.lines (place a o.lines) i 0 0 (ne i refl) in
       let ej = get_or-set_other o.lines (place a o.lines) j 0 0 (ne j (sym same)) in
       let li : i < length o.lines = omega (arith, hi, long) in
-      once i j li (omega (arith, hj, long)) (sym ei ∙ same ∙ ej) (is_out o (get_or o.lines i 0) (subst (λ c. Named c) ei p.0) (i, (li, refl)))
+      once i j li (omega (arith, hj, long)) (sym ei ∙ same ∙ ej) (is_out o (get_or o.lines i 0) (subst (λ c. Names o c) ei p.0) (i, (li, refl)))
