@@ -230,8 +230,8 @@ module _ {N C : Type 0} (meaning : N → Net C) (zero : C) (over : Closing N C) 
     lower : a ≤ count
     lower = (lower_means a is).1
 
-    relocked_lower : (x y : ℕ) → x ≤ count → y ≤ count → (s z : Option Told) → s ≡ z → closing_net (unless s n (relocked n l (relined x y))) zero es b c ≡ unless z net (relocked net l (relined x y))
-    relocked_lower x y hx hy s z q =
+    relocked_lower : (x y : ℕ) (s z : Option Told) → s ≡ z → closing_net (unless s n (relocked n l (relined x y))) zero es b c ≡ unless z net (relocked net l (relined x y))
+    relocked_lower x y s z q =
         let put = ap (λ (os : List Lock). record { nodes = n.nodes + 2; arcs = n.arcs ++ own; locks = os }) (with_through count l x y n.locks) in
         let same : closing_net (relocked n l (relined x y)) zero es b c ≡ relocked net l (relined x y) = ap (λ o. unless o no_net (closed_net (relocked n l (relined x y)) zero es b c)) e ∙ put ∙ ap (λ m. relocked m l (relined x y)) (fit e) in
         past_unless (λ m. closing_net m zero es b c) s n (relocked n l (relined x y)) ∙ ap₂ (λ o m. unless o net m) q same
@@ -240,13 +240,13 @@ module _ {N C : Type 0} (meaning : N → Net C) (zero : C) (over : Closing N C) 
     take_stop_lower = sym (line_lower count a lower (lock_at n.locks l)) ∙ ap (line_stop a) (sym (lock_through count l n.locks)) ∙ ap (λ m. take_out_stop m l a) (fit e)
 
     pub taken_lower : (m : Net C) → m ≡ taken n l a → closing_net m zero es b c ≡ taken net l a
-    taken_lower m q = ap (λ k. closing_net k zero es b c) q ∙ relocked_lower 0 a (omega arith) lower _ _ take_stop_lower
+    taken_lower m q = ap (λ k. closing_net k zero es b c) q ∙ relocked_lower 0 a _ _ take_stop_lower
 
     pub back_stop_lower : hand_back_stop n l a ≡ hand_back_stop net l a
     back_stop_lower = sym (back_lower count a lower (lock_at n.locks l)) ∙ ap (back_stop a) (sym (lock_through count l n.locks)) ∙ ap (λ m. hand_back_stop m l a) (fit e)
 
     pub handed_lower : (m : Net C) → m ≡ handed_back n l a → closing_net m zero es b c ≡ handed_back net l a
-    handed_lower m q = ap (λ k. closing_net k zero es b c) q ∙ relocked_lower a 0 lower (omega arith) _ _ back_stop_lower
+    handed_lower m q = ap (λ k. closing_net k zero es b c) q ∙ relocked_lower a 0 _ _ back_stop_lower
 
   module _ (l a : ℕ) (is : is_lower n a ≡ false) where
     -- a lock-out there, if any, does not stand over arc a
