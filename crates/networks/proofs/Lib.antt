@@ -1,4 +1,5 @@
 pub mod Back
 pub mod Numbered
 pub mod Places
+pub mod Keeping
 pub mod Shown

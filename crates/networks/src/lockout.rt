@@ -18,14 +18,14 @@ pub struct Lockout<N> {
 }
 
 // The first line that holds x.
-pub(crate) fn line_of(lines: &[usize], x: usize) -> Option<usize>
+fn line_of(lines: &[usize], x: usize) -> Option<usize>
     ensures { result ≡ line_with x lines.now }
 {
     lines.iter().position(|line| *line == x)
 }
 
 // The first line that holds arc a; a line that holds 0 is free.
-pub(crate) fn arc_line(lines: &[usize], a: usize) -> Option<usize>
+fn arc_line(lines: &[usize], a: usize) -> Option<usize>
     ensures { result ≡ arc_line_of a lines.now }
 {
     if a == 0 { None } else { line_of(lines, a) }

@@ -23,14 +23,14 @@ impl Tag {
         self.arc
     }
 
-    // Only a lock-out makes a tag, and a ring one that it kept.
+    // Only a lock-out makes a tag.
     pub(crate) fn new(arc: usize) -> Tag
         ensures { result ≡ record { arc = arc } }
     {
         Tag { arc }
     }
 
-    // Only a lock-out spends one, and a ring that takes it in. Taken apart here, a tag is not dropped.
+    // Only a lock-out spends one. Taken apart here, a tag is not dropped.
     pub(crate) fn spend(self) {
         let Tag { arc: _ } = self;
     }
