@@ -2,3 +2,4 @@ pub mod Stepping
 pub mod Opened
 pub mod Making
 pub mod Whole
+pub mod Every

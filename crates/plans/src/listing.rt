@@ -22,14 +22,14 @@ fn part(offers: &[i32], from: usize, len: usize) -> &[i32]
     &rest[..len.min(rest.len())]
 }
 
-// Makes one call; none where its tag has no place, or no tag is kept for it.
-pub fn make<N: Network>(
+// Makes one call; none where it would be granted, and its tag has no place or no tag is kept for it.
+pub fn make<N: Network, const ROOM: usize>(
     net: &mut N,
     flow: &mut [i32],
     needs: &[i32],
     prices: &mut [N::Cost],
     marks: &mut [u8],
-    tags: &mut TagRing,
+    tags: &mut TagRing<ROOM>,
     offers: &[i32],
     call: Call<N::Cost>,
 ) -> Option<Outcome<N::Cost>>

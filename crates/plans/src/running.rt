@@ -1,7 +1,8 @@
 // Run: a plan is opened, and the calls of a list are made in order.
 
+ghost use Rattle.std.specs.Prelude.{◌≡◌, ℕ, length};
 ghost use Rattle.runs.specs.States.{state};
-ghost use Rattle.plans.specs.Lists.{MakesAll, Runs};
+ghost use Rattle.plans.specs.Lists.{MakesAll, Runs, EveryCallMade};
 
 use crate::listing::make;
 use crate::opening::open;
@@ -9,14 +10,15 @@ use costs::CostKind;
 use networks::{Network, Stop, TagRing};
 use runs::{Call, Outcome};
 
-// Makes the calls in order, and says how many it made; it ends early only where outcomes or tags run short.
-fn make_all<N: Network>(
+// Makes the calls in order, and says how many it made; it ends early only where the outcomes run short, or before a
+// call that the tags do not suffice for.
+fn make_all<N: Network, const ROOM: usize>(
     net: &mut N,
     flow: &mut [i32],
     needs: &[i32],
     prices: &mut [N::Cost],
     marks: &mut [u8],
-    tags: &mut TagRing,
+    tags: &mut TagRing<ROOM>,
     offers: &[i32],
     calls: &[Call<N::Cost>],
     outcomes: &mut [Outcome<N::Cost>],
@@ -37,18 +39,19 @@ fn make_all<N: Network>(
 
 // Opens a plan and makes the calls of a list on it, each outcome written into a lent table; answers how many
 // were made, or why the plan cannot be opened. A flow that a call offers stands among `offers`.
-pub fn run<N: Network>(
+pub fn run<N: Network, const ROOM: usize>(
     net: &mut N,
     flow: &mut [i32],
     needs: &mut [i32],
     prices: &mut [N::Cost],
     marks: &mut [u8],
-    tags: &mut TagRing,
+    tags: &mut TagRing<ROOM>,
     offers: &[i32],
     calls: &[Call<N::Cost>],
     outcomes: &mut [Outcome<N::Cost>],
 ) -> Result<usize, Stop>
-    ensures { Runs N.Cost.CostKind.kind (state (N.meaning net.old) flow.old needs.old prices.old marks.old) tags.old.places offers.now calls.now outcomes.old result (state (N.meaning net.new) flow.new needs.new prices.new marks.new) tags.new.places outcomes.new }
+    ensures runs { Runs N.Cost.CostKind.kind (state (N.meaning net.old) flow.old needs.old prices.old marks.old) tags.old.places offers.now calls.now outcomes.old result (state (N.meaning net.new) flow.new needs.new prices.new marks.new) tags.new.places outcomes.new }
+    ensures every { EveryCallMade (N.meaning net.old) tags.old.places (length calls.now) (length outcomes.old) result }
 {
     open(net, flow, needs, prices, marks)?;
     Ok(make_all(

@@ -200,7 +200,7 @@ module _ {C : Type 0} (size : C → ℕ) (n : Net C) (e : Event C) (a : ℕ) (c 
 -- ---- take-out and hand-back
 
 -- the lock-out that a granted call names is there
-lock_there : (os : List Lock) (l : ℕ) (P : Option Lock → Type 0) → (P None → ⊥) → P (lock_at os l) → (o : Lock) × ((lock_at os l ≡ Some o) × P (Some o))
+pub lock_there : (os : List Lock) (l : ℕ) (P : Option Lock → Type 0) → (P None → ⊥) → P (lock_at os l) → (o : Lock) × ((lock_at os l ≡ Some o) × P (Some o))
 lock_there os l P never h = go (lock_at os l) refl h
   where
     go : (x : Option Lock) → lock_at os l ≡ x → P x → (o : Lock) × ((x ≡ Some o) × P (Some o))

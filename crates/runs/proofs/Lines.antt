@@ -7,7 +7,7 @@ use Rattle.networks.specs.Nets.{Lock, place, has, lacks, out_at, relined, line_s
 use Rattle.networks.proofs.Places.{place_at}
 
 -- b stands in the list
-abbrev Holds : List ℕ → ℕ → Type 0
+abbrev pub Holds : List ℕ → ℕ → Type 0
 Holds xs b = (i : ℕ) × ((i < length xs) × (get_or xs i 0 ≡ b))
 
 place_first : (b : ℕ) (xs : List ℕ) (i : ℕ) → i < length xs → get_or xs i 0 ≡ b → place b xs ≤ i
@@ -22,7 +22,7 @@ place_first b (y ∷ ys) (suc i) h e = go (eqb y b) (place_first b ys i (omega a
 has_holds : (b : ℕ) (xs : List ℕ) → has b xs ≡ true → Holds xs b
 has_holds b xs h = let l : place b xs < length xs = ltb-true _ _ h in (place b xs, (l, place_at b xs l))
 
-holds_has : (b : ℕ) (xs : List ℕ) → Holds xs b → has b xs ≡ true
+pub holds_has : (b : ℕ) (xs : List ℕ) → Holds xs b → has b xs ≡ true
 holds_has b xs (i, (h, e)) = let l = place_first b xs i h e in lt-ltb (place b xs) (length xs) (omega arith)
 
 -- the number names an arc that the lock-out stands over
@@ -59,7 +59,7 @@ kept xs k v i b q h e = let long = length-set xs k v in (i, (omega (arith, long)
 
 -- ---- a take-out that is granted
 
-free : (p q r : Bool) (s t u : Told) → cond p (Some s) (cond q (Some t) (cond r None (Some u))) ≡ None → (p ≡ false) × (q ≡ false) × (r ≡ true)
+pub free : (p q r : Bool) (s t u : Told) → cond p (Some s) (cond q (Some t) (cond r None (Some u))) ≡ None → (p ≡ false) × (q ≡ false) × (r ≡ true)
 free true q r s t u e = absurd cc
 free false true r s t u e = absurd cc
 free false false false s t u e = absurd cc

@@ -31,7 +31,7 @@ with_other (o ∷ os) l k f ne = go (with_other os l k f ne) (eqb l (suc (length
     go more false q = inner more (eqb k (suc (length os))) refl
 
 -- what is out at a lock-out that a number names
-lock_small : (os : List Lock) (l a : ℕ) → out_of (lock_at os l) a ≡ true → l ≤ length os
+pub lock_small : (os : List Lock) (l a : ℕ) → out_of (lock_at os l) a ≡ true → l ≤ length os
 lock_small [] l a h = absurd cc
 lock_small (o ∷ os) l a h = go (lock_small os l a) (eqb l (suc (length os))) refl h
   where
