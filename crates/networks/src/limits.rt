@@ -14,6 +14,13 @@ pub const MOST_ARCS: usize = 1024;
 // The largest size of an arc's cost.
 pub const COST_LIMIT: u64 = 1_000_000;
 
+// The same numbers stand in the definitions of limits.
+const _: () = prove!(MOST_NODES == 256);
+
+const _: () = prove!(MOST_ARCS == 1_024);
+
+const _: () = prove!(COST_LIMIT == 1_000_000);
+
 // Refuses a count of nodes that is 0, and one of nodes or arcs beyond the limits.
 pub fn check_counts(nodes: usize, arcs: usize) -> Result<(), Stop>
     ensures { refusal result ≡ (if counts_fit nodes arcs then None else Some (1, 0)) }

@@ -2,18 +2,20 @@
 
 ghost use Rattle.std.specs.Prelude.{◌≡◌, ℕ, suc, length, replicate, ◌==◌};
 ghost use Rattle.networks.specs.Nets.{line_with, arc_line as arc_line_of, out_at, shut};
-ghost use Rattle.networks.specs.Locks.{locked_net, lock_over};
+ghost use Rattle.networks.specs.Answers.{refusal};
+ghost use Rattle.networks.specs.Locks.{locked_stop, locked_net, lockout_net, lock_over};
 
-use crate::{Arc, Bounds, Network, Stop, Tag};
+use crate::{Arc, Bounds, Network, Stop, Tag, check_counts};
 
 // How many arcs a lock-out can have out.
 const LINES: usize = 16;
 
 // Each line holds the number of an arc that is out, or 0 where it is free: what a lock-out means is a list
-// of such numbers, and there is no arc 0.
+// of such numbers, and there is no arc 0. It is fit where the counts below are; else it shows nothing.
 #[derive(Drop)]
 pub struct Lockout<N> {
     below: N,
+    fit: bool,
     lines: [usize; LINES],
 }
 
@@ -45,19 +47,27 @@ impl<C> Arc<C> {
     }
 }
 
-impl<N> Lockout<N> {
-    // A lock-out with nothing out.
-    pub fn new(below: N) -> Lockout<N>
-        ensures { result ≡ record { below = below; lines = replicate 16 0 } }
+impl<N: Network> Lockout<N> {
+    // Why a lock-out cannot stand over this network, if so.
+    pub fn check(below: &N) -> Result<(), Stop>
+        ensures { refusal result ≡ locked_stop (N.Network.meaning below.now) }
     {
+        check_counts(below.nodes(), below.arcs())
+    }
+
+    // A lock-out with nothing out; over an unfit network it shows nothing.
+    pub fn new(below: N) -> Lockout<N>
+        ensures shows { lockout_net N.Network.meaning result ≡ locked_net (N.Network.meaning below) (replicate 16 0) }
+        ensures over { result.below ≡ below }
+    {
+        let fit = Self::check(&below).is_ok();
         Lockout {
             below,
+            fit,
             lines: [0; LINES],
         }
     }
-}
 
-impl<N: Network> Lockout<N> {
     // Whether this is the lock-out of that number: the one above all those below.
     fn is_number(&self, layer: usize) -> bool
         ensures { result ≡ (layer == suc (length (N.Network.meaning self.now.below).locks)) }
@@ -76,26 +86,43 @@ impl<N: Network> Lockout<N> {
 impl<N: Network> Network for Lockout<N> {
     type Cost = N::Cost;
 
-    ghost meaning = { λ s. locked_net (N.Network.meaning s.below) s.lines };
+    ghost meaning = { lockout_net N.Network.meaning };
+
+    ghost references = { λ s. N.Network.references s.below };
 
     fn nodes(&self) -> usize {
+        if !self.fit {
+            return 0;
+        }
         self.below.nodes()
     }
 
     fn arcs(&self) -> usize {
+        if !self.fit {
+            return 0;
+        }
         self.below.arcs()
     }
 
     fn lockouts(&self) -> usize {
+        if !self.fit {
+            return 0;
+        }
         self.below.lockouts().saturating_add(1)
     }
 
     fn arc(&self, a: usize) -> Option<Arc<N::Cost>> {
+        if !self.fit {
+            return None;
+        }
         let x = self.below.arc(a)?;
         Some(if self.is_out(a) { x.shut_off() } else { x })
     }
 
     fn rebound(&mut self, a: usize, b: Bounds) -> Result<(), Stop> {
+        if !self.fit {
+            return Err(Stop::Absent(a));
+        }
         self.below.arc(a).ok_or(Stop::Absent(a))?;
         if self.is_out(a) {
             return Err(Stop::Held(a));
@@ -104,10 +131,16 @@ impl<N: Network> Network for Lockout<N> {
     }
 
     fn recost(&mut self, a: usize, c: N::Cost) -> Result<(), Stop> {
+        if !self.fit {
+            return Err(Stop::Absent(a));
+        }
         self.below.recost(a, c)
     }
 
     fn take_out(&mut self, layer: usize, a: usize) -> Result<Tag, Stop> {
+        if !self.fit {
+            return Err(Stop::Absent(a));
+        }
         if !self.is_number(layer) {
             return self.below.take_out(layer, a);
         }
@@ -121,6 +154,9 @@ impl<N: Network> Network for Lockout<N> {
     }
 
     fn hand_back(&mut self, layer: usize, tag: Tag) -> Result<(), (Stop, Tag)> {
+        if !self.fit {
+            return Err((Stop::NotOut(tag.arc()), tag));
+        }
         if !self.is_number(layer) {
             return self.below.hand_back(layer, tag);
         }

@@ -109,6 +109,7 @@ impl<const ROOM: usize> TagRing<ROOM> {
     ) -> Option<Result<(), Stop>>
         ensures answers { option_map refusal result ≡ through_ring (has_room self.old.places) (take_out_stop (N.meaning net.old) layer a) }
         ensures network { N.meaning net.new ≡ (if has_room self.old.places then taken (N.meaning net.old) layer a else N.meaning net.old) }
+        ensures same_references { N.references net.new ≡ N.references net.old }
         ensures ring { self.new.places ≡ (if has_room self.old.places then unless (take_out_stop (N.meaning net.old) layer a) self.old.places (with_tag self.old.places a) else self.old.places) }
     {
         let Some(free) = free_place(&self.places) else {
@@ -133,6 +134,7 @@ impl<const ROOM: usize> TagRing<ROOM> {
     ) -> Option<Result<(), Stop>>
         ensures answers { option_map refusal result ≡ through_ring (keeps self.old.places a) (hand_back_stop (N.meaning net.old) layer a) }
         ensures network { N.meaning net.new ≡ (if keeps self.old.places a then handed_back (N.meaning net.old) layer a else N.meaning net.old) }
+        ensures same_references { N.references net.new ≡ N.references net.old }
         ensures ring { self.new.places ≡ (if keeps self.old.places a then unless (hand_back_stop (N.meaning net.old) layer a) self.old.places (without_tag self.old.places a) else self.old.places) }
     {
         let Some(at) = tag_place(&self.places, a) else {
@@ -153,6 +155,7 @@ impl<const ROOM: usize> TagRing<ROOM> {
 fn out_elsewhere<N: Network>(net: &mut N, layer: usize, a: usize) -> Option<Result<(), Stop>>
     ensures answers { option_map refusal result ≡ through_ring false (hand_back_stop (N.meaning net.old) layer a) }
     ensures same { N.meaning net.new ≡ N.meaning net.old }
+    ensures same_references { N.references net.new ≡ N.references net.old }
 {
     match try_out(net, layer, a) {
         Err(Stop::Held(_)) => None,

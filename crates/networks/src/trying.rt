@@ -10,6 +10,7 @@ use crate::{Network, Stop};
 pub fn try_out<N: Network>(net: &mut N, layer: usize, a: usize) -> Result<(), Stop>
     ensures answers { refusal result ≡ take_out_stop (N.meaning net.old) layer a }
     ensures same { N.meaning net.new ≡ N.meaning net.old }
+    ensures same_references { N.references net.new ≡ N.references net.old }
 {
     let tag = net.take_out(layer, a)?;
     net.hand_back(layer, tag).map_err(|(stop, _kept)| stop)

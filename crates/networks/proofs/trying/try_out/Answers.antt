@@ -18,4 +18,4 @@ pub returns : goal.returns
 returns g c =
     let h = c.in_ok-tag.ensures in
     let r = as_before (g.N.Network.meaning c.args.net.now) (g.N.Network.meaning c.take_out.new.self) c.args.layer c.args.a c.in_ok-tag.tag h.answers h.leaves (g.N.Network.meaning c.hand_back.new.self) c.hand_back.ensures.leaves in
-    record { answers = ap refusal (rw (granted g (goal.at.returns g c).After-hand_back) at c.map_err.ensures.cases) ∙ r.0; same = r.1 }
+    record { answers = ap refusal (rw (granted g (goal.at.returns g c).After-hand_back) at c.map_err.ensures.cases) ∙ r.0; same = r.1; same_references = c.hand_back.ensures.same_references ∙ h.same_references }
