@@ -7,7 +7,7 @@ use Rattle.networks.specs.Nets.{Net}
 use Rattle.hours.specs.declared.chain.Source.{Source}
 use Rattle.hours.specs.declared.chain.Source.TheVariants.{Sun, Mains, Generator, Lamp, Battery}
 use Rattle.hours.specs.declared.chain.HourRow.{HourRow}
-use Rattle.hours.specs.declared.chain.HourChain.{HourChain}
+use Rattle.makes.specs.declared.kept.Kept.{Kept}
 use Rattle.makes.specs.Bases.{base_net, unfit_net, arcs_from, kept_net}
 
 abbrev pub most_hours : ℕ
@@ -45,5 +45,5 @@ abbrev pub hours_net : {C : Type 0} → ℕ → List (HourRow C) → Net C
 hours_net H rows = unless (chain_stop H (length rows)) unfit_net (base_net (H + 1) (arcs_from (hour_arc H) 1 rows))
 
 -- what a chain shows: of its nodes, all but one are hours
-abbrev pub chain_net : {C : Type 0} → HourChain C → Net C
-chain_net c = kept_net (λ n. hour_arc (n - 1)) c.kept
+abbrev pub chain_net : {C : Type 0} → Kept ℕ (HourRow C) → Net C
+chain_net c = kept_net (λ n. hour_arc (n - 1)) c

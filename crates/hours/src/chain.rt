@@ -6,7 +6,7 @@ ghost use Rattle.hours.specs.Hours.{chain_stop, chain_net, hours_net, hour_of as
 
 use costs::CostKind;
 use makes::{ArcRow, Kept};
-use networks::{Arc, Bounds, Network, Stop, Tag};
+use networks::{Arc, Bounds, Stop};
 
 // The most hours of a chain, and how many arcs each has.
 const MOST_HOURS: usize = 48;
@@ -71,11 +71,23 @@ fn ends(nodes: usize, i: usize) -> (usize, usize)
 impl<C: CostKind> ArcRow for HourRow<C> {
     type Cost = C;
 
+    // How many nodes there are: the hours and what lies outside them.
+    type Shape = usize;
+
+    ghost stop_of = { λ n. chain_stop (n - 1) };
+
+    ghost nodes_of = { λ n. n };
+
     ghost arc_of = { λ n. hour_arc (n - 1) };
 
     ghost free = { λ n a r. refl };
 
     ghost loose = { λ n a r. refl };
+
+    fn nodes(nodes: usize, rows: usize) -> Result<usize, Stop> {
+        check_counts(nodes.saturating_sub(1), rows)?;
+        Ok(nodes)
+    }
 
     fn as_arc(self, nodes: usize, i: usize) -> Arc<C> {
         let (from, to) = ends(nodes, i);
@@ -96,70 +108,34 @@ impl<C: CostKind> ArcRow for HourRow<C> {
 }
 
 // Its nodes are the hours and what lies outside them.
-#[derive(Drop)]
-pub struct HourChain<'a, C> {
-    kept: Kept<'a, HourRow<C>>,
+pub type HourChain<'a, C> = Kept<'a, usize, HourRow<C>>;
+
+// Refuses hours that are too few or too many, and rows that are not five for each.
+fn check_counts(hours: usize, rows: usize) -> Result<(), Stop>
+    ensures { refusal result ≡ chain_stop hours rows }
+{
+    if !(1..=MOST_HOURS).contains(&hours) {
+        return Err(Stop::Counts);
+    }
+    if rows != ARCS * hours {
+        return Err(Stop::Lengths);
+    }
+    Ok(())
 }
 
-impl<'a, C> HourChain<'a, C> {
-    // Why a chain of so many hours cannot be made of these rows, if so.
-    pub fn check(hours: usize, rows: &[HourRow<C>]) -> Result<(), Stop>
-        ensures { refusal result ≡ chain_stop hours (length rows.now) }
-    {
-        if !(1..=MOST_HOURS).contains(&hours) {
-            return Err(Stop::Counts);
-        }
-        if rows.len() != ARCS * hours {
-            return Err(Stop::Lengths);
-        }
-        Ok(())
-    }
-
-    // The chain; one of unfit parts shows no node and no arc.
-    pub fn new(hours: usize, rows: &'a mut [HourRow<C>]) -> HourChain<'a, C>
-        ensures { chain_net result ≡ hours_net hours rows.old }
-    {
-        let fit = Self::check(hours, rows);
-        HourChain {
-            kept: Kept::over(fit, hours.saturating_add(1), rows),
-        }
-    }
+// Why a chain of so many hours cannot be made of these rows, if so.
+pub fn check_chain<C>(hours: usize, rows: &[HourRow<C>]) -> Result<(), Stop>
+    ensures { refusal result ≡ chain_stop hours (length rows.now) }
+{
+    check_counts(hours, rows.len())
 }
 
-impl<C: CostKind> Network for HourChain<'_, C> {
-    type Cost = C;
-
-    ghost meaning = { chain_net };
-
-    fn nodes(&self) -> usize {
-        self.kept.nodes()
-    }
-
-    fn arcs(&self) -> usize {
-        self.kept.arcs()
-    }
-
-    fn lockouts(&self) -> usize {
-        self.kept.lockouts()
-    }
-
-    fn arc(&self, a: usize) -> Option<Arc<C>> {
-        self.kept.arc(a)
-    }
-
-    fn rebound(&mut self, a: usize, b: Bounds) -> Result<(), Stop> {
-        self.kept.rebound(a, b)
-    }
-
-    fn recost(&mut self, a: usize, c: C) -> Result<(), Stop> {
-        self.kept.recost(a, c)
-    }
-
-    fn take_out(&mut self, layer: usize, a: usize) -> Result<Tag, Stop> {
-        self.kept.take_out(layer, a)
-    }
-
-    fn hand_back(&mut self, layer: usize, tag: Tag) -> Result<(), (Stop, Tag)> {
-        self.kept.hand_back(layer, tag)
-    }
+// The chain; one of unfit parts shows no node and no arc.
+pub fn new_chain<C: CostKind>(hours: usize, rows: &mut [HourRow<C>]) -> HourChain<'_, C>
+    ensures shows { chain_net result ≡ hours_net hours rows.old }
+    ensures keeps { result.rows.now ≡ rows.old }
+    ensures same_reference { result.rows.ghost_name ≡ rows.entry.ghost_name }
+{
+    let nodes = if hours <= MOST_HOURS { hours + 1 } else { 0 };
+    Kept::over(nodes, rows)
 }

@@ -1,6 +1,6 @@
 // A chain of two hours.
 
-use crate::{HourChain, HourRow};
+use crate::{HourChain, HourRow, check_chain, new_chain};
 use costs::Plain;
 use networks::{Arc, Bounds, Network, Stop};
 use std::test::Fail;
@@ -17,11 +17,11 @@ fn chain_of_two_hours(rt: HostRuntime) -> Result<(), Fail> {
         hi: 8,
         cost: Plain { units: 0 },
     }; 10];
-    assert_eq!(rt; HourChain::check(0, &rows), Err(Stop::Counts));
-    assert_eq!(rt; HourChain::check(49, &rows), Err(Stop::Counts));
-    assert_eq!(rt; HourChain::check(3, &rows), Err(Stop::Lengths));
-    assert_eq!(rt; HourChain::new(49, &mut rows).nodes(), 0);
-    let mut chain = HourChain::new(2, &mut rows);
+    assert_eq!(rt; check_chain(0, &rows), Err(Stop::Counts));
+    assert_eq!(rt; check_chain(49, &rows), Err(Stop::Counts));
+    assert_eq!(rt; check_chain(3, &rows), Err(Stop::Lengths));
+    assert_eq!(rt; new_chain(49, &mut rows).nodes(), 0);
+    let mut chain = new_chain(2, &mut rows);
     assert_eq!(rt; chain.nodes(), 3);
     assert_eq!(rt; chain.arcs(), 10);
     assert_eq!(rt; ends_of(&chain, 0), None);

@@ -1,7 +1,7 @@
 -- A network that is kept in rows: what it shows of a row, and what is left when one row is rewritten.
-use Rattle.std.proofs.Common.{◌≡◌, ℕ, ◌+◌, ◌-◌, ◌<◌, ◌≤◌, Bool, true, false, cond, leb, List, length, get_or, set, ℤ, Some, None, Err, Option, sym, ap, ap₂, ◌∙◌, subst, arith}
+use Rattle.std.proofs.Common.{◌≡◌, ℕ, ◌+◌, ◌-◌, ◌<◌, ◌≤◌, Bool, true, false, cond, leb, List, length, get_or, set, ℤ, Some, None, Err, Option, sym, refl, ap, ap₂, ◌∙◌, subst, arith}
 use Rattle.std.specs.List.{slice_get}
-use Rattle.std.specs.Option.{option_map, ok_or}
+use Rattle.std.specs.Option.{option_map, ok_or, unwrap_or}
 use Rattle.std.proofs.lemmas.Option.{slice_get-get_or}
 use Rattle.std.proofs.lemmas.Bool.{le-leb, lt-leb}
 use Rattle.networks.specs.declared.network.Arc.{Arc}
@@ -14,7 +14,7 @@ use Rattle.networks.specs.Nets.{Net, numbered, replaced, shown_arc, arc_at, held
 use Rattle.networks.proofs.Numbered.{numbered_next, item_at, nth_mapped, set_mapped, length_mapped}
 use Rattle.networks.proofs.Shown.{unlocked}
 use Rattle.makes.specs.declared.kept.Kept.{Kept}
-use Rattle.makes.specs.Bases.{base_net, arcs_from, place_of, kept_net}
+use Rattle.makes.specs.Bases.{base_net, arcs_from, place_of, shown_of, shown_rows, kept_net}
 use Rattle.makes.proofs.Counted.{no_place, a_place, absent}
 
 -- ---- any network
@@ -57,20 +57,20 @@ module _ {C : Type 0} (nodes : ℕ) (arcs : List (Arc C)) (a : ℕ) where
 -- ---- one that is kept in rows, each an arc by its number
 
 -- a number with no place
-module _ {R C : Type 0} (f : ℕ → ℕ → R → Arc C) (t : Kept R) (a : ℕ) where
+module _ {S R C : Type 0} (f : S → ℕ → R → Arc C) (t : Kept S R) (a : ℕ) where
   abbrev whole : Net C
   whole = kept_net f t
 
-  pub arc_absent : None ≡ place_of (length t.rows.now) a → None ≡ arc_at whole a
-  arc_absent h = ap (option_map (shown_arc false)) (no_place whole.arcs a (h ∙ ap (λ m. place_of m a) (sym (length_mapped (f t.nodes) 1 t.rows.now))))
+  pub arc_absent : None ≡ place_of (length (shown_rows t)) a → None ≡ arc_at whole a
+  arc_absent h = ap (option_map (shown_arc false)) (no_place whole.arcs a (h ∙ ap (λ m. place_of m a) (sym (length_mapped (f t.shape) 1 (shown_rows t)))))
 
   -- the stop that tells it, and the network as it was
-  module _ (s : Stop) (e : Err s ≡ ok_or (place_of (length t.rows.now) a) (Absent a)) where
+  module _ (s : Stop) (e : Err s ≡ ok_or (place_of (length (shown_rows t)) a) (Absent a)) where
     there : None ≡ arc_at whole a
-    there = arc_absent (absent (place_of (length t.rows.now) a) a s e).0
+    there = arc_absent (absent (place_of (length (shown_rows t)) a) a s e).0
 
     tells : Some (told s) ≡ Some (8, a)
-    tells = ap (λ z. Some (told z)) (absent (place_of (length t.rows.now) a) a s e).1
+    tells = ap (λ z. Some (told z)) (absent (place_of (length (shown_rows t)) a) a s e).1
 
     pub rebound_absent : (lo hi : ℤ) → (Some (told s) ≡ rebound_stop whole a) × (whole ≡ rebounded whole a lo hi)
     rebound_absent lo hi = let z : Some (8, a) ≡ rebound_stop whole a = ap (held_stop a) there in (tells ∙ z, bounds_refused whole a lo hi (8, a) z)
@@ -132,3 +132,36 @@ module _ {R C : Type 0} (f : ℕ → R → Arc C) (nodes : ℕ) (rows : List R) 
       recost_there d v w =
           let x = f a (row d) in
           ap (base_net nodes) (writes v ∙ ap (set (build rows) (a - 1)) w) ∙ cost_changed nodes (build rows) a size c x (reads d) (recost_granted d)
+
+-- ---- all rows are shown where one has a place
+
+all_shown : {R : Type 0} (o : Option ℕ) (rows : List R) (a i : ℕ) → Some i ≡ place_of (length (shown_of o rows)) a → shown_of o rows ≡ rows
+all_shown None rows a i p = absurd (let h = a_place 0 a i p in omega (arith, h))
+all_shown (Some n) rows a i p = refl
+
+shown_set : {R : Type 0} (o : Option ℕ) (rows : List R) (i : ℕ) (v : R) → shown_of o (set rows i v) ≡ set (shown_of o rows) i v
+shown_set None rows i v = refl
+shown_set (Some n) rows i v = refl
+
+module _ {S R C : Type 0} (f : S → ℕ → R → Arc C) (t : Kept S R) (a i : ℕ) (p : Some i ≡ place_of (length (shown_rows t)) a) where
+  abbrev count : ℕ
+  count = unwrap_or t.nodes 0
+
+  same : shown_rows t ≡ t.rows.now
+  same = all_shown t.nodes t.rows.now a i p
+
+  pub kept_arc : (d : R) → Some (f t.shape (i + 1) (get_or t.rows.now i d)) ≡ arc_at (kept_net f t) a
+  kept_arc d = ap (λ xs. Some (f t.shape (i + 1) (get_or xs i d))) (sym same) ∙ arc_there (f t.shape) count (shown_rows t) a i p d
+
+  -- the network once the row is rewritten as v
+  abbrev written : R → Net C
+  written v = base_net count (arcs_from (f t.shape) 1 (shown_of t.nodes (set t.rows.now i v)))
+
+  written_is : (v : R) → written v ≡ base_net count (arcs_from (f t.shape) 1 (set (shown_rows t) i v))
+  written_is v = ap (λ xs. base_net count (arcs_from (f t.shape) 1 xs)) (shown_set t.nodes t.rows.now i v)
+
+  pub kept_rebound : ((r : R) → (f t.shape a r).held ≡ false) → (lo hi : ℤ) (d v : R) → f t.shape a v ≡ with_bounds lo hi (f t.shape a (get_or t.rows.now i d)) → written v ≡ rebounded (kept_net f t) a lo hi
+  kept_rebound free lo hi d v w = written_is v ∙ rebound_there (f t.shape) count (shown_rows t) a i p free lo hi d v (w ∙ ap (λ xs. with_bounds lo hi (f t.shape a (get_or xs i d))) (sym same))
+
+  pub kept_recost : ((r : R) → (f t.shape a r).fixed ≡ false) → (size : C → ℕ) (c : C) → size c ≤ cost_limit → (d v : R) → f t.shape a v ≡ with_cost c (f t.shape a (get_or t.rows.now i d)) → written v ≡ recosted size (kept_net f t) a c
+  kept_recost loose size c l d v w = written_is v ∙ recost_there (f t.shape) count (shown_rows t) a i p loose size c l d v (w ∙ ap (λ xs. with_cost c (f t.shape a (get_or xs i d))) (sym same))

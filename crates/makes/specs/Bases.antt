@@ -1,5 +1,6 @@
 -- Networks that stand on no other: they are kept in rows, and have no lock-out.
 use Rattle.std.specs.Prelude.{ℕ, ◌-◌, cond, ◌||◌, List, [], Some, None, Option, ◌==◌, nat_lt}
+use Rattle.std.specs.Option.{unwrap_or}
 use Rattle.networks.specs.declared.network.Arc.{Arc}
 use Rattle.networks.specs.Nets.{Net, mapped_from}
 use Rattle.makes.specs.declared.kept.Kept.{Kept}
@@ -20,10 +21,14 @@ arcs_from f k rows = mapped_from f k rows
 abbrev pub place_of : ℕ → ℕ → Option ℕ
 place_of count a = cond (a == 0 || nat_lt count a) None (Some (a - 1))
 
--- the nodes and the rows of a network that is kept in rows
-abbrev pub kept_of : {R : Type 0} → Kept R → ℕ × List R
-kept_of k = (k.nodes, k.rows.now)
+-- the rows that are shown: none where there is no count of nodes
+abbrev pub shown_of : {R : Type 0} → Option ℕ → List R → List R
+shown_of None rows = []
+shown_of (Some n) rows = rows
 
--- the network that is kept in rows, where f says which arc a row is, by how many nodes there are and its number
-abbrev pub kept_net : {R C : Type 0} → (ℕ → ℕ → R → Arc C) → Kept R → Net C
-kept_net f k = base_net k.nodes (arcs_from (f k.nodes) 1 k.rows.now)
+abbrev pub shown_rows : {S R : Type 0} → Kept S R → List R
+shown_rows k = shown_of k.nodes k.rows.now
+
+-- the network that is kept in rows, where f says which arc a row is, by the shape and its number
+abbrev pub kept_net : {S R C : Type 0} → (S → ℕ → R → Arc C) → Kept S R → Net C
+kept_net f k = base_net (unwrap_or k.nodes 0) (arcs_from (f k.shape) 1 (shown_rows k))

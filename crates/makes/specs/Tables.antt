@@ -4,6 +4,7 @@ use Rattle.networks.specs.declared.network.Arc.{Arc}
 use Rattle.networks.specs.Limits.{counts_fit}
 use Rattle.networks.specs.Answers.{Told, unless}
 use Rattle.networks.specs.Nets.{Net}
+use Rattle.makes.specs.declared.table.Counts.{Counts}
 use Rattle.makes.specs.declared.table.Row.{Row}
 use Rattle.makes.specs.declared.kept.Kept.{Kept}
 use Rattle.makes.specs.Bases.{base_net, unfit_net, kept_net}
@@ -21,5 +22,5 @@ abbrev pub rows_net : {C : Type 0} → ℕ → ℕ → List (Row C) → Net C
 rows_net nodes arcs rows = unless (table_stop nodes arcs (length rows)) unfit_net (base_net nodes (map row_arc rows))
 
 -- what a table shows: each of its rows is an arc as it stands
-abbrev pub table_net : {C : Type 0} → Kept (Row C) → Net C
-table_net t = kept_net (λ n a r. row_arc r) t
+abbrev pub table_net : {C : Type 0} → Kept Counts (Row C) → Net C
+table_net t = kept_net (λ s a r. row_arc r) t

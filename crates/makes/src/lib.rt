@@ -13,7 +13,7 @@ mod table;
 
 pub use kept::{ArcRow, Kept};
 pub use rows::place_of;
-pub use table::{ArcTable, Row};
+pub use table::{ArcTable, Counts, Row};
 
 #[cfg(test)]
 mod tests;

@@ -32,17 +32,38 @@ impl<C> Row<C> {
     }
 }
 
+// How many nodes and arcs a table is to have.
+#[derive(Clone, Copy, Debug, PartialEq, Eq)]
+pub struct Counts {
+    pub nodes: usize,
+    pub arcs: usize,
+}
+
 // A row has its ends in it, whatever its number.
 impl<C: CostKind> ArcRow for Row<C> {
     type Cost = C;
 
-    ghost arc_of = { λ n a r. row_arc r };
+    type Shape = Counts;
 
-    ghost free = { λ n a r. refl };
+    ghost stop_of = { λ s rows. table_stop s.nodes s.arcs rows };
 
-    ghost loose = { λ n a r. refl };
+    ghost nodes_of = { λ s. s.nodes };
 
-    fn as_arc(self, _nodes: usize, _i: usize) -> Arc<C> {
+    ghost arc_of = { λ s a r. row_arc r };
+
+    ghost free = { λ s a r. refl };
+
+    ghost loose = { λ s a r. refl };
+
+    fn nodes(shape: Counts, rows: usize) -> Result<usize, Stop> {
+        check_counts(shape.nodes, shape.arcs)?;
+        if rows != shape.arcs {
+            return Err(Stop::Lengths);
+        }
+        Ok(shape.nodes)
+    }
+
+    fn as_arc(self, _shape: Counts, _i: usize) -> Arc<C> {
         Arc::free(self.from, self.to, self.lo, self.hi, self.cost)
     }
 
@@ -59,25 +80,24 @@ impl<C: CostKind> ArcRow for Row<C> {
     }
 }
 
-pub type ArcTable<'a, C> = Kept<'a, Row<C>>;
+pub type ArcTable<'a, C> = Kept<'a, Counts, Row<C>>;
 
-impl<'a, C> Kept<'a, Row<C>> {
+impl<'a, C: CostKind> Kept<'a, Counts, Row<C>> {
     // Why a table of these counts cannot be made of these rows, if so.
     pub fn check(nodes: usize, arcs: usize, rows: &[Row<C>]) -> Result<(), Stop>
         ensures { refusal result ≡ table_stop nodes arcs (length rows.now) }
     {
-        check_counts(nodes, arcs)?;
-        if rows.len() != arcs {
-            return Err(Stop::Lengths);
-        }
+        Row::<C>::nodes(Counts { nodes, arcs }, rows.len())?;
         Ok(())
     }
 
     // The table; one of unfit parts shows no node and no arc.
     #[tactic(auto, using(crate::proofs::Tables::as_they_stand))]
     pub fn new(nodes: usize, arcs: usize, rows: &'a mut [Row<C>]) -> ArcTable<'a, C>
-        ensures { table_net result ≡ rows_net nodes arcs rows.old }
+        ensures shows { table_net result ≡ rows_net nodes arcs rows.old }
+        ensures keeps { result.rows.now ≡ rows.old }
+        ensures same_reference { result.rows.ghost_name ≡ rows.entry.ghost_name }
     {
-        Kept::over(Self::check(nodes, arcs, rows), nodes, rows)
+        Kept::over(Counts { nodes, arcs }, rows)
     }
 }

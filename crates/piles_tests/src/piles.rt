@@ -1,7 +1,7 @@
 // Runs on piles: a closing between two lock-outs over a table, and an hour chain under a pile.
 
 use costs::Plain;
-use hours::{HourChain, HourRow};
+use hours::{HourRow, new_chain};
 use layers::Draft;
 use makes::ArcTable;
 use networks::{Lockout, Stop};
@@ -107,7 +107,7 @@ fn day() -> [HourRow<Plain>; 10] {
 #[test]
 fn two_hours_alone(rt: HostRuntime) -> Result<(), Fail> {
     let mut rows = day();
-    let mut net = HourChain::new(2, &mut rows);
+    let mut net = new_chain(2, &mut rows);
     let two = bounds(0, 2)?;
     let calls = [
         Call::Settle {
@@ -137,7 +137,7 @@ fn two_hours_alone(rt: HostRuntime) -> Result<(), Fail> {
 #[test]
 fn hours_in_a_pile(rt: HostRuntime) -> Result<(), Fail> {
     let mut rows = day();
-    let chain = Lockout::new(HourChain::new(2, &mut rows));
+    let chain = Lockout::new(new_chain(2, &mut rows));
     let closing = Draft::new(chain, bounds(0, 0)?, Plain { units: 0 }).close();
     let mut net = Lockout::new(closing);
     let calls = [
