@@ -11,12 +11,13 @@ use Rattle.networks.specs.declared.bounds.Bounds.{Bounds}
 use Rattle.networks.specs.Limits.{most_nodes, most_arcs, cost_limit}
 use Rattle.networks.specs.Answers.{Told, unless}
 use Rattle.networks.specs.Nets.{Lock, Net, numbered, replaced, shown_arc, arc_at, held_stop, rebound_stop, with_bounds, rebounded, cost_stop, recost_stop, with_cost, recosted, lock_at, relocked, line_stop, take_out_stop, relined, taken, back_stop, hand_back_stop, handed_back}
+use Rattle.networks.specs.Locks.{no_net}
 use Rattle.networks.proofs.Numbered.{item_at}
 use Rattle.networks.proofs.Shown.{unlocked}
 use Rattle.layers.specs.declared.entry.Entry.{Entry}
 use Rattle.layers.specs.declared.closing.Closing.{Closing}
 use Rattle.layers.specs.declared.closing.Part.{Part}
-use Rattle.layers.specs.Closings.{entry_arc, return_arc, within, closed_net, closing_stop, no_net, closing_net, is_lower, Lies}
+use Rattle.layers.specs.Closings.{entry_arc, return_arc, within, closed_net, closing_stop, closing_net, is_lower, Lies}
 use Rattle.layers.proofs.Joined.{nth_left, nth_right, numbered_left, numbered_right, length_replaced, replaced_left, replaced_right}
 use Rattle.layers.proofs.Reach.{is_out_lower, line_lower, back_lower, is_out_upper, line_upper, back_upper, lock_through, with_through}
 

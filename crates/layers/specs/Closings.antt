@@ -5,6 +5,7 @@ use Rattle.networks.specs.declared.bounds.Bounds.{Bounds}
 use Rattle.networks.specs.Limits.{most_nodes, most_arcs}
 use Rattle.networks.specs.Answers.{Told, unless}
 use Rattle.networks.specs.Nets.{Lock, Net}
+use Rattle.networks.specs.Locks.{no_net}
 use Rattle.layers.specs.declared.entry.Side.{Side}
 use Rattle.layers.specs.declared.entry.Side.TheVariants.{Supply, Demand}
 use Rattle.layers.specs.declared.entry.Entry.{Entry}
@@ -39,9 +40,6 @@ closed_net n zero es b c = record { nodes = n.nodes + 2; arcs = n.arcs ++ (map (
 -- why no closing can stand over a network: 1 where it has no node, or with two nodes and an arc more is too large
 abbrev pub closing_stop : {C : Type 0} → Net C → Option Told
 closing_stop n = cond (n.nodes == 0 || (nat_lt most_nodes (n.nodes + 2) || nat_lt most_arcs (length n.arcs + 1))) (Some (1, 0)) None
-
-abbrev pub no_net : {C : Type 0} → Net C
-no_net = record { nodes = 0; arcs = []; locks = [] }
 
 -- unfit, it shows nothing
 abbrev pub closing_net : {C : Type 0} → Net C → C → List Entry → Bounds → C → Net C

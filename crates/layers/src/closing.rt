@@ -100,6 +100,8 @@ impl<N: Network> Network for Closing<N, N::Cost> {
 
     ghost meaning = { λ s. closing_net (N.Network.meaning s.below) N.Cost.CostKind.kind.zero s.entries.items s.bounds s.cost };
 
+    ghost references = { λ s. N.Network.references s.below };
+
     fn nodes(&self) -> usize {
         if !self.is_fit() {
             return 0;
