@@ -1,7 +1,8 @@
 -- What the answers of a search come to, in words: least is least, none is none, and paused had a lap at hand.
-use Rattle.std.proofs.Common.{◌≡◌, ℕ, ◌≤◌, List, [], ◌∷◌, length, ℤ, ◌≤ℤ◌, sym, refl, ap, ◌∙◌, subst, inl, inr, arith}
+use Rattle.std.proofs.Common.{◌≡◌, ℕ, ◌-◌, ◌*◌, ◌≤◌, cond, List, [], ◌∷◌, map, length, ℤ, ◌≤ℤ◌, sym, refl, ap, ◌∙◌, subst, inl, inr, arith}
 use borrow.Author.Differences.{ints}
 use Rattle.std.specs.List.{AllByRecursion}
+use Rattle.std.proofs.lemmas.Bool.{le-leb}
 use Rattle.costs.specs.Kinds.{Kind, Laws}
 use Rattle.networks.specs.declared.network.Arc.{Arc}
 use Rattle.networks.specs.Nets.{Net, shown}
@@ -9,8 +10,8 @@ use Rattle.networks.proofs.Shown.{length_shown}
 use Rattle.flows.specs.Flows.{outside_of, outside, excess, imbalance, EachArc, Within, Ends, Meets, Least}
 use Rattle.flows.specs.Laps.{Lap, Better}
 use Rattle.flows.specs.Cuts.{marked}
-use Rattle.flows.specs.Kilter.{lap_limit}
-use Rattle.flows.specs.Settles.{Tables, Answered, least, paused, none, LeastLeft, NoneLeft, Answers, Settles, Says, Final, InWords}
+use Rattle.flows.specs.Kilter.{InKilter, largest, lap_limit}
+use Rattle.flows.specs.Settles.{Tables, Answered, least, paused, none, LeastLeft, NoneLeft, Answers, Settles, Says, Final, InWords, read_price_as, LeastStays}
 use Rattle.flows.proofs.ArcSums.{all_from}
 use Rattle.flows.proofs.Fitted.{Passed}
 use Rattle.flows.proofs.Least.{kilter_is_least, kilter_within}
@@ -96,3 +97,18 @@ module _ {C : Type 0} (K : Kind C) (laws : Laws K) (n : Net C) (budget : ℕ) (f
     meets = λ m l h. keeps answer s.answers m ∙ p.meets m l h;
     ends = ends answer s.answers;
   }
+
+module _ {C : Type 0} (K : Kind C) where
+  -- small prices are read as they are
+  read_same : (limit : ℕ) (ps : List C) → AllByRecursion (λ p. K.size p ≤ limit) ps → map (read_price_as K limit) ps ≡ ps
+  read_same limit [] h = refl
+  read_same limit (p ∷ ps) (h, hs) =
+      let same : read_price_as K limit p ≡ p = ap (λ b. cond b p K.zero) (le-leb (K.size p) limit h) in
+      let more = read_same limit ps hs in
+      cc
+
+  pub least_stays : LeastStays K
+  least_stays N arcs budget again found left after cost laps answer s t =
+      let same = read_same ((N - 1) * largest K arcs) left.prices s.small_prices in
+      let kept = t.kept (subst (λ ps. EachArc (InKilter K ps) arcs left.flow) (sym same) s.answers.kilter) in
+      (kept.answer_is ∙ ap (λ c. least c 0) (sym s.answers.total_is), kept.flow_stays)

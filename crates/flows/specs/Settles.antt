@@ -1,5 +1,5 @@
 -- What a search owes for each of its answers.
-use Rattle.std.specs.Prelude.{◌≡◌, ℕ, ◌-◌, ◌*◌, ◌<◌, ◌≤◌, List, length, ℤ}
+use Rattle.std.specs.Prelude.{◌≡◌, ℕ, ◌-◌, ◌*◌, ◌<◌, ◌≤◌, cond, List, map, length, ℤ, nat_le}
 use Rattle.std.specs.List.{AllByRecursion}
 use Rattle.costs.specs.Kinds.{Kind, sums}
 use Rattle.networks.specs.declared.network.Arc.{Arc}
@@ -7,6 +7,7 @@ use Rattle.flows.specs.Flows.{EachArc, Within, Least, Meets, imbalance, total}
 use Rattle.flows.specs.Kilter.{InKilter, largest, lap_limit}
 use Rattle.flows.specs.Laps.{Laps}
 use Rattle.flows.specs.Cuts.{MarksCut}
+use Rattle.flows.specs.searching.Prices.{SignsKept}
 
 -- the tables of a plan: a flow for each arc; a need, a price and a mark for each node
 pub record Tables (C : Type 0) : Type 0 where
@@ -14,6 +15,14 @@ pub record Tables (C : Type 0) : Type 0 where
   pub needs : List ℤ
   pub prices : List C
   pub marks : List ℕ
+
+-- a price found of too large a size is read as zero
+abbrev pub read_price_as : {C : Type 0} → Kind C → ℕ → C → C
+read_price_as K limit p = cond (nat_le (K.size p) limit) p K.zero
+
+-- the prices as a search reads them: one of a size above (N − 1) times the largest cost size is too large
+abbrev pub prices_read : {C : Type 0} → Kind C → ℕ → List (Arc C) → List C → List C
+prices_read K N arcs ps = map (read_price_as K ((N - 1) * largest K arcs)) ps
 
 -- the answers: a total and laps, laps, or none
 pub data Answered (C : Type 0) : Type 0 where
@@ -49,11 +58,18 @@ Answers K N arcs budget found (least cost laps) left = LeastLeft K arcs budget f
 Answers K N arcs budget found (paused laps) left = PausedLeft K N arcs budget found laps left
 Answers K N arcs budget found none left = NoneLeft arcs found left
 
--- whatever the answer, the needs stay, and every price has a size of at most (N − 1) times the largest cost size
+-- nothing was to be done: least with no lap, the flow as found, and no reduced cost has turned its sign since the prices were read
+pub record Kept {C : Type 0} (K : Kind C) (N : ℕ) (arcs : List (Arc C)) (found : Tables C) (answer : Answered C) (left : Tables C) : Type 0 where
+  pub answer_is : answer ≡ least (total (sums K) arcs found.flow) 0
+  pub flow_stays : left.flow ≡ found.flow
+  pub signs : SignsKept K arcs (prices_read K N arcs found.prices) left.prices
+
+-- whatever the answer, the needs stay, and every price has a size of at most (N − 1) times the largest cost size; a flow in kilter at the prices as read is kept, with any budget
 pub record Settles {C : Type 0} (K : Kind C) (N : ℕ) (arcs : List (Arc C)) (budget : ℕ) (found : Tables C) (answer : Answered C) (left : Tables C) : Type 0 where
   pub answers : Answers K N arcs budget found answer left
   pub needs_stay : left.needs ≡ found.needs
   pub small_prices : AllByRecursion (λ p. K.size p ≤ (N - 1) * largest K arcs) left.prices
+  pub kept : EachArc (InKilter K (prices_read K N arcs found.prices)) arcs found.flow → Kept K N arcs found answer left
 
 -- the answer in words: least, that the flow left is within the bounds and no flow within them with the same imbalances has a lower total; none, that no flow within the bounds has the needs
 abbrev pub Says : {C : Type 0} → Kind C → ℕ → List (Arc C) → Tables C → Answered C → Tables C → Type 0
@@ -73,3 +89,8 @@ pub record InWords {C : Type 0} (K : Kind C) (N : ℕ) (arcs : List (Arc C)) (bu
   pub keeps : (n : ℕ) → imbalance arcs left.flow n ≡ imbalance arcs found.flow n
   pub meets : Meets arcs found.needs left.flow
   pub ends : lap_limit (length arcs) ≤ budget → Final answer
+
+-- what was settled least settles again for nothing, with any budget: least with the same total and no lap, and the flow stays
+abbrev pub LeastStays : {C : Type 0} → Kind C → Type 0
+LeastStays {C} K = (N : ℕ) (arcs : List (Arc C)) (budget again : ℕ) (found left after : Tables C) (cost : C) (laps : ℕ) (answer : Answered C) →
+    Settles K N arcs budget found (least cost laps) left → Settles K N arcs again left answer after → (answer ≡ least cost 0) × (after.flow ≡ left.flow)

@@ -32,7 +32,7 @@ pub use steps::{Step, far_end};
 pub use stops::{first_stop, open_stop, take_up_stop};
 pub use theorems::{
     cut_shows_none, kept_signs_ease, kilter_is_least, kilter_sum_is_limited, kilter_sum_tells,
-    laps_keep_imbalances,
+    laps_keep_imbalances, least_stays,
 };
 pub use totals::total;
 pub use views::{Seen, View};

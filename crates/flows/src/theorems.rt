@@ -4,6 +4,7 @@ ghost use Rattle.flows.specs.Kilter.{KilterIsLeast, KilterSumIsLimited, KilterSu
 ghost use Rattle.flows.specs.Laps.{LapsKeepImbalances};
 ghost use Rattle.flows.specs.Cuts.{CutShowsNone};
 ghost use Rattle.flows.specs.searching.Prices.{KeptSignsEase};
+ghost use Rattle.flows.specs.Settles.{LeastStays};
 
 use costs::CostKind;
 
@@ -35,4 +36,9 @@ pub fn kilter_sum_tells<C: CostKind>()
 // Where prices change and no reduced cost turns its sign, no kilter number rises.
 pub fn kept_signs_ease<C: CostKind>()
     ensures { KeptSignsEase C.CostKind.kind }
+{}
+
+// What was settled least settles again for nothing, with any budget: the same total, no lap, and the flow stays.
+pub fn least_stays<C: CostKind>()
+    ensures { LeastStays C.CostKind.kind }
 {}
