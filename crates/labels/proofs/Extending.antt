@@ -1,6 +1,7 @@
 -- What labelling over one arc gives.
-use Rattle.std.proofs.Common.{◌≡◌, ℕ, ◌<◌, ◌≤◌, Bool, true, false, cond, eqb, List, length, get_or, ℤ, pos, Some, None, refl, ◌∙◌, subst, arith}
-use Rattle.std.proofs.lemmas.Bool.{eqb-true}
+use Rattle.std.proofs.Common.{◌≡◌, ℕ, ◌<◌, ◌≤◌, Bool, true, false, cond, eqb, List, [], length, drop, get_or, ℤ, pos, Some, None, sym, refl, ap, ◌∙◌, subst, arith}
+use Rattle.std.proofs.lemmas.List.{length-drop}
+use Rattle.std.proofs.lemmas.Bool.{eqb-true, eq-eqb}
 use Rattle.costs.specs.Kinds.{Kind}
 use Rattle.networks.specs.Nets.{IsAt}
 use Rattle.networks.specs.declared.network.Arc.{Arc}
@@ -13,8 +14,8 @@ use Rattle.flows.specs.declared.views.Seen.{Seen}
 use Rattle.flows.proofs.ArcSums.{same_at}
 use Rattle.flows.specs.searching.Fits.{Fit}
 use Rattle.labels.specs.Moves.{may, may_at}
-use Rattle.labels.specs.Good.{count, node_at, place_of, Open, Good, Grown, outward_at, linked_by, pushed}
-use Rattle.labels.proofs.More.{counts, room, whole_more, grown_more, linked_more}
+use Rattle.labels.specs.Good.{count, node_at, place_of, Open, Labelled, Whole, Good, Grown, Followed, AllFollowed, outward_at, linked_by, pushed}
+use Rattle.labels.proofs.More.{counts, room, entry_old, place_new, whole_more, grown_more, linked_more}
 
 -- the way outward sets out from the node, and leads to one that is not labelled
 pub outward_is : {C : Type 0} (a : Arc C) (n : ℕ) (ls : Labels) (along : Bool) → Some along ≡ outward_at a n ls → (near a along ≡ n) × (place_of ls (far a along) ≡ 0)
@@ -30,11 +31,29 @@ outward_is a n ls along e = go (eqb a.from n) (eqb a.to n) (eqb (place_of ls a.t
     go false true p false ef et ep eq along e = cc
     go false false p q ef et ep eq along e = cc
 
+-- where there is none, the arc leads from the node to labelled ones alone
+pub inward_is : {C : Type 0} (a : Arc C) (n : ℕ) (ls : Labels) → outward_at a n ls ≡ None → (b : Bool) → near a b ≡ n → Labelled ls (far a b)
+inward_is a n ls e b here = go (eqb a.from n) (eqb a.to n) (eqb (place_of ls a.to) 0) (eqb (place_of ls a.from) 0) refl refl refl refl b here e
+  where
+    some : (m : ℕ) → eqb (place_of ls m) 0 ≡ false → Labelled ls m
+    some m e = let h : place_of ls m ≡ 0 → ⊥ = λ q. absurd (let z = ap (λ y. eqb y 0) q in cc) in omega arith
+
+    go : (f t p q : Bool) → eqb a.from n ≡ f → eqb a.to n ≡ t → eqb (place_of ls a.to) 0 ≡ p → eqb (place_of ls a.from) 0 ≡ q → (b : Bool) → near a b ≡ n →
+        cond f (cond p (Some true) None) (cond t (cond q (Some false) None) None) ≡ None → Labelled ls (far a b)
+    go true t true q ef et ep eq b here e = absurd cc
+    go true t false q ef et ep eq true here e = some a.to ep
+    go true t false q ef et ep eq false here e = let same : a.to ≡ a.from = here ∙ sym (eqb-true a.from n ef) in subst (Labelled ls) same (some a.to ep)
+    go false true p true ef et ep eq b here e = absurd cc
+    go false true p false ef et ep eq true here e = absurd (let z : eqb a.from n ≡ true = eq-eqb a.from n here in cc)
+    go false true p false ef et ep eq false here e = some a.from eq
+    go false false p q ef et ep eq true here e = absurd (let z : eqb a.from n ≡ true = eq-eqb a.from n here in cc)
+    go false false p q ef et ep eq false here e = absurd (let z : eqb a.to n ≡ true = eq-eqb a.to n here in cc)
+
 -- what is seen of an arc may move as the arc does
-pub seen_may : {C : Type 0} (K : Kind C) (arcs : List (Arc C)) (flow : List ℤ) (prices : List C) (i : ℕ) (s : Seen C) (a : Arc C) (along : Bool) → Sees K arcs flow prices i s → s.arc ≡ a → may_at K s.cost s.arc along s.flow ≡ true →
-    may K prices a along (get_or flow i (pos 0)) ≡ true
-seen_may K arcs flow prices i s a along sees same h =
-    subst (λ z. may K prices z along (get_or flow i (pos 0)) ≡ true) same (subst (λ f. may_at K (reduced K prices s.arc) s.arc along f ≡ true) sees.carries (subst (λ z. may_at K z s.arc along s.flow ≡ true) sees.priced h))
+pub seen_as : {C : Type 0} (K : Kind C) (arcs : List (Arc C)) (flow : List ℤ) (prices : List C) (i : ℕ) (s : Seen C) (a : Arc C) (along : Bool) → Sees K arcs flow prices i s → s.arc ≡ a →
+    may_at K s.cost s.arc along s.flow ≡ may K prices a along (get_or flow i (pos 0))
+seen_as K arcs flow prices i s a along sees same =
+    ap (λ z. may_at K z s.arc along s.flow) sees.priced ∙ ap (λ f. may_at K (reduced K prices s.arc) s.arc along f) sees.carries ∙ ap (λ z. may K prices z along (get_or flow i (pos 0))) same
 
 -- nothing changed
 pub grown_none : (ls : Labels) → Grown ls ls
@@ -76,3 +95,49 @@ module _ {C : Type 0} (K : Kind C) (arcs : List (Arc C)) (flow : List ℤ) (pric
       some = omega (arith, counts (length prices) few ls good.whole new (ends along).0 (ends along).1 fresh);
       linked = linked_more (length prices) few ls good.whole new (ends along).0 (ends along).1 (fresh) K arcs flow prices chosen good.linked place here opens;
     }
+
+    -- from that node the arc leads that way alone
+    one_way : (b : Bool) → near a b ≡ node_at ls at → b ≡ along
+    one_way b q = go along b here fresh q
+      where
+        go : (x y : Bool) → near a x ≡ node_at ls at → place_of ls (far a x) ≡ 0 → near a y ≡ node_at ls at → y ≡ x
+        go true true h f q = refl
+        go false false h f q = refl
+        go true false h f q = absurd (let p = ap (place_of ls) q in omega (arith, good.whole.placed at place))
+        go false true h f q = absurd (let p = ap (place_of ls) q in omega (arith, good.whole.placed at place))
+
+    pub new_followed : Followed K arcs flow prices (pushed ls new) at i
+    new_followed b way bt q m =
+        let old : near b way ≡ node_at ls at = q ∙ ap (λ z. z.node) (entry_old (length prices) few ls good.whole new (ends along).0 (ends along).1 fresh at place) in
+        let same : b ≡ a = same_at arcs i b a bt is in
+        let one : way ≡ along = one_way way (subst (λ z. near z way ≡ node_at ls at) same old) in
+        let e : far b way ≡ far a along = cc in
+        let p = place_new (length prices) few ls good.whole new (ends along).0 (ends along).1 fresh in
+        subst (Labelled (pushed ls new)) (sym e) (omega (arith, p))
+
+  -- nothing was labelled: the arc may not move, or leads to labelled nodes
+  pub shut_followed : (ls : Labels) → Whole (length prices) ls → (at i : ℕ) → at < count ls → (a : Arc C) → IsAt arcs i a → (along : Bool) → near a along ≡ node_at ls at → place_of ls (far a along) ≡ 0 → may K prices a along (get_or flow i (pos 0)) ≡ false →
+      Followed K arcs flow prices ls at i
+  shut_followed ls whole at i place a is along here fresh shut b way bt q m =
+      let same : b ≡ a = same_at arcs i b a bt is in
+      go way along here fresh shut (subst (λ z. near z way ≡ node_at ls at) same q) (subst (λ z. may K prices z way (get_or flow i (pos 0)) ≡ true) same m)
+    where
+      go : (y x : Bool) → near a x ≡ node_at ls at → place_of ls (far a x) ≡ 0 → may K prices a x (get_or flow i (pos 0)) ≡ false → near a y ≡ node_at ls at → may K prices a y (get_or flow i (pos 0)) ≡ true → Labelled ls (far b way)
+      go true true h f n q m = absurd cc
+      go false false h f n q m = absurd cc
+      go false true h f n q m = absurd (let p = ap (place_of ls) q in omega (arith, whole.placed at place))
+      go true false h f n q m = absurd (let p = ap (place_of ls) q in omega (arith, whole.placed at place))
+
+  pub none_followed : (ls : Labels) (at i : ℕ) (a : Arc C) → IsAt arcs i a → outward_at a (node_at ls at) ls ≡ None → Followed K arcs flow prices ls at i
+  none_followed ls at i a is none b way bt q m = let same : b ≡ a = same_at arcs i b a bt is in inward_is b (node_at ls at) ls (subst (λ z. outward_at z (node_at ls at) ls ≡ None) (sym same) none) way q
+
+  -- what is followed stays so
+  pub followed_more : (ls ms : Labels) → Grown ls ms → (k i : ℕ) → k < count ls → Followed K arcs flow prices ls k i → Followed K arcs flow prices ms k i
+  followed_more ls ms g k i h old a along is q m =
+      let r = old a along is (q ∙ ap (λ z. z.node) (g.same k h)) m in
+      let e = g.kept (far a along) r in
+      omega arith
+
+  -- the arcs from none on are followed once they are gone through
+  pub followed_all : (ls : Labels) (k n : ℕ) → drop n arcs ≡ [] → ((i : ℕ) → i < n → (i ≡ chosen → ⊥) → Followed K arcs flow prices ls k i) → AllFollowed K arcs flow prices chosen ls k
+  followed_all ls k n none each i other a along is = let l = ap length none in each i (omega (arith, is.0, length-drop n arcs)) other a along is

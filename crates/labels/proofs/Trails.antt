@@ -9,7 +9,8 @@ use Rattle.costs.specs.Kinds.{Kind, Laws}
 use Rattle.flows.specs.Kilter.{reduced}
 use Rattle.flows.specs.searching.Fits.{Fit, Fitting, Small}
 use Rattle.flows.specs.Flows.{Ends}
-use Rattle.flows.specs.Laps.{Leads, near, first, Chain, Apart, moved, sent}
+use Rattle.flows.specs.Kilter.{kilter_sum}
+use Rattle.flows.specs.Laps.{Leads, near, first, Chain, Apart, moved, sent, Lap, Better}
 use Rattle.networks.specs.declared.network.Arc.{Arc}
 use Rattle.flows.specs.declared.steps.Step.{Step}
 use Rattle.flows.proofs.ArcSums.{at_place}
@@ -19,7 +20,7 @@ use Rattle.flows.proofs.Rooms.{Room, HasRoom, roomy_from_start, lap_better, arc_
 use Rattle.labels.specs.declared.labelling.Labels.{Labels}
 use Rattle.labels.specs.Moves.{limit_at, room_at}
 use Rattle.labels.specs.Good.{count, node_at, place_of, place_at, Labelled, Whole, Good}
-use Rattle.labels.specs.Ways.{Way, Moving, FitsIn, Steady, Chosen, GoneRound}
+use Rattle.labels.specs.Ways.{Way, Moving, FitsIn, LeastRoom, Steady, Chosen, GoneRound}
 
 -- what has room: at most the limit, which is within the bounds
 room_from : {C : Type 0} (K : Kind C) (laws : Laws K) (N : ℕ) (prices : List C) (arcs : List (Arc C)) (a : Arc C) (along : Bool) (f x : ℤ) → Fit K N a → pos 1 ≤ℤ x → x ≤ℤ room_at K prices a along f →
@@ -190,23 +191,32 @@ module _ {C : Type 0} (K : Kind C) (laws : Laws K) (arcs : List (Arc C)) (flow :
     units : (x : ℤ) → pos 1 ≤ℤ x → 1 ≤ nat_abs x
     units x h = omega (arith, ints)
 
-    pub gone : (x : ℤ) (g : List ℤ) → pos 1 ≤ℤ x → AllByRecursion (FitsIn K arcs flow prices x) (s ∷ rest) → g ≡ sent x (s ∷ rest) flow → GoneRound K arcs prices flow g
-    gone x g low fits e =
-        let roomy = roomy_from_start K prices arcs x (s ∷ rest) flow apart (rooms_from x (s ∷ rest) low fits) in
-        let b = lap_better K laws prices arcs x s rest flow long chain roomy ch.amiss in
+    -- any amount of at least 1 goes round
+    pub round : (x : ℤ) → pos 1 ≤ℤ x → Lap arcs flow (sent x (s ∷ rest) flow)
+    round x low = record {
+      steps = s ∷ rest;
+      amount = nat_abs x;
+      some_steps = omega arith;
+      closed = chain;
+      apart = nodes;
+      some_amount = units x low;
+      sent_on = ap (λ z. sent z (s ∷ rest) flow) (whole x low);
+    }
+
+    -- where it fits, the flow is better then
+    pub round_betters : (x : ℤ) → pos 1 ≤ℤ x → AllByRecursion (FitsIn K arcs flow prices x) (s ∷ rest) → (kilter_sum K prices arcs (sent x (s ∷ rest) flow) < kilter_sum K prices arcs flow) × Better K arcs flow (sent x (s ∷ rest) flow)
+    round_betters x low fits = lap_better K laws prices arcs x s rest flow long chain (roomy_from_start K prices arcs x (s ∷ rest) flow apart (rooms_from x (s ∷ rest) low fits)) ch.amiss
+
+    pub gone : (x : ℤ) (g : List ℤ) → pos 1 ≤ℤ x → LeastRoom K arcs flow prices (s ∷ rest) x → g ≡ sent x (s ∷ rest) flow → GoneRound K arcs prices flow g
+    unfolding round
+    gone x g low r e =
+        let b = round_betters x low r.fits in
         subst (GoneRound K arcs prices flow) (sym e) (record {
-          lap = record {
-            steps = s ∷ rest;
-            amount = nat_abs x;
-            some_steps = omega arith;
-            closed = chain;
-            apart = nodes;
-            some_amount = units x low;
-            sent_on = ap (λ z. sent z (s ∷ rest) flow) (whole x low);
-          };
+          lap = round x low;
+          full = subst (LeastRoom K arcs flow prices (s ∷ rest)) (sym (whole x low)) r;
           nearer = b.0;
           better = b.1;
-          small = (steady x low fits).1;
-          eased = λ i a is. arc_falls K laws prices arcs x (s ∷ rest) flow i a long is roomy;
+          small = (steady x low r.fits).1;
+          eased = λ i a is. arc_falls K laws prices arcs x (s ∷ rest) flow i a long is (roomy_from_start K prices arcs x (s ∷ rest) flow apart (rooms_from x (s ∷ rest) low r.fits));
           long = length_sent x (s ∷ rest) flow;
         })

@@ -3,7 +3,7 @@ use Rattle.std.specs.Prelude.{◌≡◌, ℕ, ◌+◌, ◌-◌, ◌<◌, ◌≤�
 use Rattle.costs.specs.Kinds.{Kind}
 use Rattle.networks.specs.Limits.{most_nodes}
 use Rattle.networks.specs.Nets.{IsAt}
-use Rattle.flows.specs.Laps.{Leads, far}
+use Rattle.flows.specs.Laps.{Leads, near, far}
 use Rattle.networks.specs.declared.network.Arc.{Arc}
 use Rattle.flows.specs.declared.steps.Step.{Step}
 use Rattle.labels.specs.declared.labelling.Entry.{Entry}
@@ -87,3 +87,11 @@ pub record Begun (source : ℕ) (ls : Labels) : Type 0 where
   pub whole : (N : ℕ) → source ≤ N → N ≤ most_nodes → Whole N ls
   pub one : count ls ≡ 1
   pub starts : node_at ls 0 ≡ source
+
+-- arc i, where it may move from the node at place k, leads to a labelled node
+abbrev pub Followed : {C : Type 0} → Kind C → List (Arc C) → List ℤ → List C → Labels → ℕ → ℕ → Type 0
+Followed {C} K arcs flow prices ls k i = (a : Arc C) (along : Bool) → IsAt arcs i a → near a along ≡ node_at ls k → may K prices a along (slice_index_or flow i (pos 0)) ≡ true → Labelled ls (far a along)
+
+-- so does every arc but the chosen one
+abbrev pub AllFollowed : {C : Type 0} → Kind C → List (Arc C) → List ℤ → List C → ℕ → Labels → ℕ → Type 0
+AllFollowed K arcs flow prices chosen ls k = (i : ℕ) → (i ≡ chosen → ⊥) → Followed K arcs flow prices ls k i

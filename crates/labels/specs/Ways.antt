@@ -1,5 +1,6 @@
 -- The way that labels lead back, and the room on it.
-use Rattle.std.specs.Prelude.{◌≡◌, ℕ, ◌<◌, ◌≤◌, true, List, [], ◌∷◌, length, ℤ, pos, ◌≤ℤ◌, slice_index_or, slice_set, unsigned_abs}
+use Rattle.std.specs.Prelude.{◌≡◌, ℕ, ◌<◌, ◌≤◌, true, Any, List, [], ◌∷◌, length, ℤ, pos, ◌≤ℤ◌, slice_index_or, slice_set, unsigned_abs}
+use Rattle.std.specs.List.{AllByRecursion}
 use Rattle.costs.specs.Kinds.{Kind}
 use Rattle.networks.specs.Nets.{IsAt}
 use Rattle.flows.specs.searching.Fits.{Small}
@@ -38,6 +39,11 @@ Moving {C} K arcs flow prices s = (s.arc < length arcs) × ((a : Arc C) → IsAt
 abbrev pub FitsIn : {C : Type 0} → Kind C → List (Arc C) → List ℤ → List C → ℤ → Step → Type 0
 FitsIn {C} K arcs flow prices x s = (a : Arc C) → IsAt arcs s.arc a → x ≤ℤ room_at K prices a s.along (slice_index_or flow s.arc (pos 0))
 
+-- x is the least room of the steps: each has room for it, and one for no more
+pub record LeastRoom {C : Type 0} (K : Kind C) (arcs : List (Arc C)) (flow : List ℤ) (prices : List C) (steps : List Step) (x : ℤ) : Type 0 where
+  pub fits : AllByRecursion (FitsIn K arcs flow prices x) steps
+  pub fills : Any (λ s. RoomIs K arcs flow prices s x) steps
+
 -- each step in its turn stays within the limits
 abbrev pub Steady : ℤ → List Step → List ℤ → Type 0
 Steady x [] fs = Unit {0}
@@ -49,9 +55,10 @@ pub record Chosen {C : Type 0} (K : Kind C) (arcs : List (Arc C)) (flow : List �
   pub moving : Moving K arcs flow prices s
   pub amiss : (a : Arc C) → IsAt arcs s.arc a → Amiss K prices a s.along (slice_index_or flow s.arc (pos 0))
 
--- what a lap does
+-- what a lap does; its amount is the least room, so that some arc of the chain is moved to its limit
 pub record GoneRound {C : Type 0} (K : Kind C) (arcs : List (Arc C)) (prices : List C) (f g : List ℤ) : Type 0 where
   pub lap : Lap arcs f g
+  pub full : LeastRoom K arcs f prices lap.steps (pos lap.amount)
   pub nearer : kilter_sum K prices arcs g < kilter_sum K prices arcs f
   pub better : Better K arcs f g
   pub small : Small g

@@ -1,11 +1,11 @@
 // The labelling: nodes that a change of flow can reach from the source, each with the step that leads to it.
 
-ghost use Rattle.std.specs.Prelude.{◌≡◌, ℕ, ◌<◌, ◌≤◌, nat_lt};
+ghost use Rattle.std.specs.Prelude.{◌≡◌, ◌≢◌, ℕ, ◌<◌, ◌≤◌, false, nat_lt};
 ghost use Rattle.networks.specs.Limits.{most_nodes};
 ghost use Rattle.networks.specs.Nets.{shown, IsAt};
 ghost use Rattle.flows.specs.Flows.{Ends};
 ghost use Rattle.flows.specs.Laps.{far};
-ghost use Rattle.labels.specs.Good.{Begun, Good, Grown, count, entry_at, place_at, place_of, pushed, linked_by, outward_at};
+ghost use Rattle.labels.specs.Good.{Begun, Good, Grown, Followed, AllFollowed, count, entry_at, place_at, place_of, pushed, linked_by, outward_at};
 
 use crate::Aim;
 use crate::moves::may;
@@ -107,6 +107,7 @@ fn extend<N: Network>(aim: &Aim<N>, i: usize, arc: Arc<N::Cost>, at: usize, labe
     requires place { at < count labels.old }
     ensures good { Good N.Cost.CostKind.kind (shown (N.meaning aim.now.view.net.now)) aim.now.view.flow.now aim.now.view.prices.now aim.now.chosen.arc labels.new }
     ensures grown { Grown labels.old labels.new }
+    ensures followed { i ≢ aim.now.chosen.arc → Followed N.Cost.CostKind.kind (shown (N.meaning aim.now.view.net.now)) aim.now.view.flow.now aim.now.view.prices.now labels.new at i }
 {
     if i == aim.chosen.arc {
         return;
@@ -127,6 +128,7 @@ fn spread<N: Network>(aim: &Aim<N>, at: usize, labels: &mut Labels) -> bool
     ensures good { Good N.Cost.CostKind.kind (shown (N.meaning aim.now.view.net.now)) aim.now.view.flow.now aim.now.view.prices.now aim.now.chosen.arc labels.new }
     ensures grown { Grown labels.old labels.new }
     ensures found { result ≡ nat_lt 0 (place_of labels.new aim.now.chosen.node) }
+    ensures all { result ≡ false → AllFollowed N.Cost.CostKind.kind (shown (N.meaning aim.now.view.net.now)) aim.now.view.flow.now aim.now.view.prices.now aim.now.chosen.arc labels.new at }
 {
     for (i, arc) in arcs_of(aim.view.net).enumerate() {
         if labels.place(aim.chosen.node).is_some() {
@@ -143,6 +145,7 @@ pub fn label<N: Network>(aim: &Aim<N>, start: usize, labels: &mut Labels) -> boo
     ensures good { Good N.Cost.CostKind.kind (shown (N.meaning aim.now.view.net.now)) aim.now.view.flow.now aim.now.view.prices.now aim.now.chosen.arc labels.new }
     ensures grown { Grown labels.old labels.new }
     ensures found { result ≡ nat_lt 0 (place_of labels.new aim.now.chosen.node) }
+    ensures all { result ≡ false → (k : ℕ) → start ≤ k → k < count labels.new → AllFollowed N.Cost.CostKind.kind (shown (N.meaning aim.now.view.net.now)) aim.now.view.flow.now aim.now.view.prices.now aim.now.chosen.arc labels.new k }
 {
     let mut at = start;
     // The list grows while it is gone through.

@@ -8,7 +8,7 @@ ghost use Rattle.flows.specs.searching.Fits.{Small, Bounded, price_limit};
 ghost use Rattle.flows.specs.Laps.{moved, sent};
 ghost use Rattle.labels.specs.Good.{Labelled, count};
 ghost use Rattle.labels.specs.Searches.{Searching};
-ghost use Rattle.labels.specs.Ways.{Backward, Trail, RoomIs, Moving, FitsIn, Steady, GoneRound};
+ghost use Rattle.labels.specs.Ways.{Backward, Trail, RoomIs, Moving, LeastRoom, Steady, GoneRound};
 
 use crate::labelling::Labels;
 use crate::moves::limit;
@@ -56,11 +56,12 @@ fn room<N: Network>(view: &View<N>, step: Step) -> i32
 
 // The least room over the steps.
 fn least_room<N: Network>(view: &View<N>, steps: &[Step]) -> i32
+    requires some { 1 ≤ length steps.now }
     requires small { Small view.now.flow.now }
     requires moving { AllByRecursion (Moving N.Cost.CostKind.kind (shown (N.meaning view.now.net.now)) view.now.flow.now view.now.prices.now) steps.now }
     ensures low { pos 1 ≤ℤ result }
     ensures high { result ≤ℤ pos 2000000 }
-    ensures least { AllByRecursion (FitsIn N.Cost.CostKind.kind (shown (N.meaning view.now.net.now)) view.now.flow.now view.now.prices.now result) steps.now }
+    ensures least { LeastRoom N.Cost.CostKind.kind (shown (N.meaning view.now.net.now)) view.now.flow.now view.now.prices.now steps.now result }
 {
     steps.iter().fold(2 * Bounds::LIMIT, |least, step| {
         least.min(room(view, *step))

@@ -1,9 +1,9 @@
 use Rattle.networks.specs.Nets.{shown}
-use Rattle.std.proofs.Common.{is_some, ◌∷◌, sym, ap, ◌∙◌, subst, w32, SFits, to_z, of_z, rules}
+use Rattle.std.proofs.Common.{is_some, ◌∷◌, length, arith, sym, ap, ◌∙◌, subst, w32, SFits, to_z, of_z, rules}
 use Rattle.std.specs.List.{AllByRecursion}
 use Rattle.std.proofs.lemmas.Int.{to_z-of_z}
 use Rattle.flows.specs.Laps.{sent}
-use Rattle.labels.specs.Ways.{Moving, FitsIn, Steady}
+use Rattle.labels.specs.Ways.{Moving, FitsIn, LeastRoom, Steady}
 use Rattle.labels.proofs.Trails.{sought_there, labelled_within, sought_place, all_moving, steady, gone}
 use Rattle.std.proofs.lemmas.Bool.{lt-ltb}
 use Rattle.labels.specs.Good.{place_of}
@@ -22,6 +22,9 @@ trace-steps-requires g c =
     let arcs = shown (g.N.Network.meaning c.args.net.now) in
     let there = sought_place g.N.Cost.CostKind.kind arcs c.args.flow.now c.args.prices.now c.args.chosen c.args.labels.now c.unwrap.result c.requires.searching.fitting good c.requires.searching.wanted (sym c.place.ensures ∙ c.unwrap.ensures) in
     record { back = λ k l m. (good.linked k l m).earlier; few = good.whole.few; place = there.0 }
+
+pub least_room-amount-requires-clause-some : goal.least_room-amount-requires-clause-some
+least_room-amount-requires-clause-some g c = omega (arith, ap length (c.as_slice.ensures.value ∙ c.trace-steps.ensures.1))
 
 pub least_room-amount-requires-clause-moving : goal.least_room-amount-requires-clause-moving
 least_room-amount-requires-clause-moving g c =
@@ -47,7 +50,7 @@ send-requires g c =
     let f : SFits w32 c.least_room-amount.result = search rules in
     subst (λ z. Steady (to_z w32 (of_z w32 x)) z c.args.flow.now) (sym (c.as_slice-2.ensures.value ∙ t.1)) (subst (λ z. Steady z (s ∷ t.0) c.args.flow.now) (sym (to_z-of_z w32 x f))
     (steady K g.met.N.Cost.CostKind.lawful arcs c.args.flow.now c.args.prices.now c.requires.searching.fitting s ls c.requires.searching.good k there.0 there.1 t.0 t.2 c.requires.searching.long c.requires.small c.requires.searching.wanted
-    x c.least_room-amount.ensures.low (subst (AllByRecursion (FitsIn K arcs c.args.flow.now c.args.prices.now x)) (c.as_slice.ensures.value ∙ t.1) c.least_room-amount.ensures.least)).0)
+    x c.least_room-amount.ensures.low (subst (AllByRecursion (FitsIn K arcs c.args.flow.now c.args.prices.now x)) (c.as_slice.ensures.value ∙ t.1) c.least_room-amount.ensures.least.fits)).0)
 
 pub returns : goal.returns
 returns g c =
@@ -61,7 +64,7 @@ returns g c =
     let x = c.least_room-amount.result in
     let f : SFits w32 c.least_room-amount.result = search rules in
     gone K g.met.N.Cost.CostKind.lawful arcs c.args.flow.now c.args.prices.now c.requires.searching.fitting s ls c.requires.searching.good k there.0 there.1 t.0 t.2 c.requires.searching.long c.requires.small c.requires.searching.wanted
-    x c.send.new.flow c.least_room-amount.ensures.low (subst (AllByRecursion (FitsIn K arcs c.args.flow.now c.args.prices.now x)) (c.as_slice.ensures.value ∙ t.1) c.least_room-amount.ensures.least)
+    x c.send.new.flow c.least_room-amount.ensures.low (subst (λ z. LeastRoom K arcs c.args.flow.now c.args.prices.now z x) (c.as_slice.ensures.value ∙ t.1) c.least_room-amount.ensures.least)
     (c.send.ensures ∙ ap (λ z. sent z c.as_slice-2.result.now c.args.flow.now) (to_z-of_z w32 x f) ∙ ap (λ z. sent x z c.args.flow.now) (c.as_slice-2.ensures.value ∙ t.1))
 
 pub unwrap-requires : goal.unwrap-requires

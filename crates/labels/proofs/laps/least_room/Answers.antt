@@ -1,11 +1,11 @@
 use Rattle.networks.specs.Nets.{shown}
-use Rattle.std.proofs.Common.{◌<◌, ◌∷◌, length, rules, subst, sym, arith, w32, SFits}
+use Rattle.std.proofs.Common.{◌≡◌, ◌<◌, ◌⊎◌, ◌∷◌, length, pos, rules, subst, sym, arith, w32, SFits}
 use Rattle.std.proofs.lemmas.Int.{to_z-of_z}
-use Rattle.std.specs.List.{AllByRecursion}
+use Rattle.std.specs.List.{Any, AllByRecursion}
 use Rattle.flows.specs.searching.Fits.{Small}
-use Rattle.labels.specs.Ways.{Moving, FitsIn}
+use Rattle.labels.specs.Ways.{RoomIs, Moving, FitsIn}
 use Rattle.flows.proofs.Turns.{held_same}
-use Rattle.labels.proofs.Rooming.{left_all, least_turns}
+use Rattle.labels.proofs.Rooming.{left_all, least_turns, least_met}
 use Rattle.labels.proofs.laps.least_room.Goals as goal
 
 pub fold-requires-clause-callable : goal.fold-requires-clause-callable
@@ -28,4 +28,7 @@ returns g c =
     let fits : SFits w32 c.fold.result = search rules in
     let r = least_turns K arcs v.flow.now v.prices.now _ xs c.iter.result t _ (f, _) yields none.0 folds (λ p q x o h. (search rules, λ a at. search rules))
     (subst (AllByRecursion (Moving K arcs v.flow.now v.prices.now)) (sym c.iter.ensures.rest) c.requires.moving) (omega arith) in
-    record { low = simp to_z-of_z r.0; high = simp to_z-of_z r.1; least = simp to_z-of_z (subst (AllByRecursion (FitsIn K arcs v.flow.now v.prices.now c.fold.result)) c.iter.ensures.rest r.2) }
+    let least = least_met K (length v.prices.now) arcs v.flow.now v.prices.now c.args.steps.now c.fold.result v.fitting c.requires.small c.requires.some c.requires.moving
+    (subst (AllByRecursion (FitsIn K arcs v.flow.now v.prices.now c.fold.result)) c.iter.ensures.rest r.2)
+    (subst (λ z. (c.fold.result ≡ pos 2000000) ⊎ Any (λ y. RoomIs K arcs v.flow.now v.prices.now y c.fold.result) z) c.iter.ensures.rest r.3) in
+    record { low = simp to_z-of_z r.0; high = simp to_z-of_z r.1; least = simp to_z-of_z least }
