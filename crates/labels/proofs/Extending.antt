@@ -1,7 +1,7 @@
 -- What labelling over one arc gives.
 use Rattle.std.proofs.Common.{◌≡◌, ℕ, ◌<◌, ◌≤◌, Bool, true, false, cond, eqb, List, [], length, drop, get_or, ℤ, pos, Some, None, sym, refl, ap, ◌∙◌, subst, arith}
 use Rattle.std.proofs.lemmas.List.{length-drop}
-use Rattle.std.proofs.lemmas.Bool.{eqb-true, eq-eqb}
+use Rattle.std.proofs.lemmas.Bool.{eqb-true}
 use Rattle.costs.specs.Kinds.{Kind}
 use Rattle.networks.specs.Nets.{IsAt}
 use Rattle.networks.specs.declared.network.Arc.{Arc}
@@ -30,24 +30,6 @@ outward_is a n ls along e = go (eqb a.from n) (eqb a.to n) (eqb (place_of ls a.t
     go false true p true ef et ep eq true e = cc
     go false true p false ef et ep eq along e = cc
     go false false p q ef et ep eq along e = cc
-
--- where there is none, the arc leads from the node to labelled ones alone
-pub inward_is : {C : Type 0} (a : Arc C) (n : ℕ) (ls : Labels) → outward_at a n ls ≡ None → (b : Bool) → near a b ≡ n → Labelled ls (far a b)
-inward_is a n ls e b here = go (eqb a.from n) (eqb a.to n) (eqb (place_of ls a.to) 0) (eqb (place_of ls a.from) 0) refl refl refl refl b here e
-  where
-    some : (m : ℕ) → eqb (place_of ls m) 0 ≡ false → Labelled ls m
-    some m e = let h : place_of ls m ≡ 0 → ⊥ = λ q. absurd (let z = ap (λ y. eqb y 0) q in cc) in omega arith
-
-    go : (f t p q : Bool) → eqb a.from n ≡ f → eqb a.to n ≡ t → eqb (place_of ls a.to) 0 ≡ p → eqb (place_of ls a.from) 0 ≡ q → (b : Bool) → near a b ≡ n →
-        cond f (cond p (Some true) None) (cond t (cond q (Some false) None) None) ≡ None → Labelled ls (far a b)
-    go true t true q ef et ep eq b here e = absurd cc
-    go true t false q ef et ep eq true here e = some a.to ep
-    go true t false q ef et ep eq false here e = let same : a.to ≡ a.from = here ∙ sym (eqb-true a.from n ef) in subst (Labelled ls) same (some a.to ep)
-    go false true p true ef et ep eq b here e = absurd cc
-    go false true p false ef et ep eq true here e = absurd (let z : eqb a.from n ≡ true = eq-eqb a.from n here in cc)
-    go false true p false ef et ep eq false here e = some a.from eq
-    go false false p q ef et ep eq true here e = absurd (let z : eqb a.from n ≡ true = eq-eqb a.from n here in cc)
-    go false false p q ef et ep eq false here e = absurd (let z : eqb a.to n ≡ true = eq-eqb a.to n here in cc)
 
 -- what is seen of an arc may move as the arc does
 pub seen_as : {C : Type 0} (K : Kind C) (arcs : List (Arc C)) (flow : List ℤ) (prices : List C) (i : ℕ) (s : Seen C) (a : Arc C) (along : Bool) → Sees K arcs flow prices i s → s.arc ≡ a →
@@ -127,9 +109,6 @@ module _ {C : Type 0} (K : Kind C) (arcs : List (Arc C)) (flow : List ℤ) (pric
       go false false h f n q m = absurd cc
       go false true h f n q m = absurd (let p = ap (place_of ls) q in omega (arith, whole.placed at place))
       go true false h f n q m = absurd (let p = ap (place_of ls) q in omega (arith, whole.placed at place))
-
-  pub none_followed : (ls : Labels) (at i : ℕ) (a : Arc C) → IsAt arcs i a → outward_at a (node_at ls at) ls ≡ None → Followed K arcs flow prices ls at i
-  none_followed ls at i a is none b way bt q m = let same : b ≡ a = same_at arcs i b a bt is in inward_is b (node_at ls at) ls (subst (λ z. outward_at z (node_at ls at) ls ≡ None) (sym same) none) way q
 
   -- what is followed stays so
   pub followed_more : (ls ms : Labels) → Grown ls ms → (k i : ℕ) → k < count ls → Followed K arcs flow prices ls k i → Followed K arcs flow prices ms k i
