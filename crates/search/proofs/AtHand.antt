@@ -1,5 +1,5 @@
 -- Where the sought node is labelled, a lap is at hand that leads to a better flow.
-use Rattle.std.proofs.Common.{◌≡◌, ℕ, zero, suc, ◌-◌, ◌<◌, ◌≤◌, List, [], ◌∷◌, length, get_or, ℤ, pos, refl, subst, ⊎_elim, arith}
+use Rattle.std.proofs.Common.{◌≡◌, ℕ, zero, suc, ◌-◌, ◌<◌, ◌≤◌, List, [], ◌∷◌, length, get_or, ℤ, pos, ◌≤ℤ◌, refl, subst, ⊎_elim, arith}
 use Rattle.std.specs.List.{AllByRecursion}
 use Rattle.std.proofs.lemmas.Bool.{cases_eq}
 use Rattle.costs.specs.Kinds.{Kind, Laws}
@@ -11,7 +11,7 @@ use Rattle.labels.specs.declared.labelling.Labels.{Labels}
 use Rattle.labels.specs.Good.{count, entry_at, place_of}
 use Rattle.labels.specs.Ways.{Way, Moving, FitsIn}
 use Rattle.labels.proofs.Rooming.{room_some}
-use Rattle.labels.proofs.Trails.{all_moving, gone}
+use Rattle.labels.proofs.Trails.{all_moving, round, round_betters}
 use Rattle.reach.specs.Rounds.{ChainFound}
 use Rattle.search.specs.Going.{LapAtHand}
 
@@ -39,5 +39,6 @@ module _ {C : Type 0} (K : Kind C) (laws : Laws K) (arcs : List (Arc C)) (flow :
       let place : k < count ls = omega (arith, h.0, found.reached) in
       let w = way_back k k k [] (omega arith) place refl in
       let m = all_moving K laws arcs flow prices fitting s ls found.good k place h.1 w.0 w.1 long small found.wanted in
-      let r = gone K laws arcs flow prices fitting s ls found.good k place h.1 w.0 w.1 long small found.wanted (pos 1) (sent (pos 1) (s ∷ w.0) flow) (record { le = tt }) (one_fits (s ∷ w.0) m) refl in
-      (sent (pos 1) (s ∷ w.0) flow, r.lap, r.better, omega (arith, r.nearer))
+      let one : pos 1 ≤ℤ pos 1 = record { le = tt } in
+      let b = round_betters K laws arcs flow prices fitting s ls found.good k place h.1 w.0 w.1 long small found.wanted (pos 1) one (one_fits (s ∷ w.0) m) in
+      (sent (pos 1) (s ∷ w.0) flow, round K laws arcs flow prices fitting s ls found.good k place h.1 w.0 w.1 long small found.wanted (pos 1) one, b.1, omega (arith, b.0))

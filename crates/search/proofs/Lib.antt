@@ -1,6 +1,7 @@
 pub mod Largest
 pub mod Choosing
 pub mod Taming
+pub mod Keeping
 pub mod Starting
 pub mod AtHand
 pub mod Marking

@@ -14,7 +14,7 @@ use Rattle.flows.proofs.Group.{size_zero}
 use Rattle.flows.proofs.KilterSums.{sum_limited}
 use Rattle.tidy.proofs.Sounds.{sound_from}
 use Rattle.search.specs.Going.{Going}
-use Rattle.search.specs.Settling.{read_price_as}
+use Rattle.flows.specs.Settles.{read_price_as}
 
 module _ {C : Type 0} (K : Kind C) (laws : Laws K) (n : Net C) (flow needs : List ℤ) (prices marks : ℕ) (p : Passed K n flow needs prices marks) where
   pub some_limit : (N : ℕ) → N ≡ n.nodes → (N - 1) * largest K (shown n) ≤ 255000000

@@ -25,7 +25,7 @@ module _ {C : Type 0} (K : Kind C) where
   eased_both (a ∷ arcs) [] ps qs rs p q = absurd p
   eased_both (a ∷ arcs) (f ∷ fs) ps qs rs (p, more) (q, rest) = (omega arith, eased_both arcs fs ps qs rs more rest)
 
-  ordered : (N : ℕ) (arcs : List (Arc C)) → Fitting K N arcs → AllByRecursion (λ a. a.lo ≤ℤ a.hi) arcs
+  pub ordered : (N : ℕ) (arcs : List (Arc C)) → Fitting K N arcs → AllByRecursion (λ a. a.lo ≤ℤ a.hi) arcs
   ordered N [] f = tt
   ordered N (a ∷ rest) f = ((f 0 a (omega arith, refl)).order, ordered N rest (λ i b h. f (suc i) b (omega (arith, h.0), h.1)))
 

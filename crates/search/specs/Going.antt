@@ -1,5 +1,6 @@
 -- What holds at each step of the search, and what one attempt at an arc does.
-use Rattle.std.specs.Prelude.{◌≡◌, ℕ, ◌+◌, ◌<◌, ◌≤◌, false, List, length, ℤ, pos, Ok, Err, Result, slice_index, slice_index_or}
+use Rattle.std.specs.Prelude.{◌≡◌, ℕ, ◌+◌, ◌<◌, ◌≤◌, Bool, false, List, length, ℤ, pos, Ok, Err, Result, nat_lt, slice_index, slice_index_or}
+use Rattle.std.specs.List.{list_any}
 use Rattle.costs.specs.Kinds.{Kind}
 use Rattle.networks.specs.declared.network.Arc.{Arc}
 use Rattle.networks.specs.Nets.{IsAt}
@@ -10,11 +11,17 @@ use Rattle.flows.specs.Laps.{Lap, Better, Laps}
 use Rattle.search.specs.Ready.{Ready}
 use Rattle.flows.specs.Cuts.{marked}
 use Rattle.flows.specs.searching.Ways.{Stuck, Strained}
+use Rattle.flows.specs.searching.Prices.{SignsKept}
 use Rattle.labels.specs.Ways.{Chosen, GoneRound}
+use Rattle.reach.specs.Rounds.{large}
 use Rattle.search.specs.declared.seek.Halt.{Halt}
 use Rattle.search.specs.declared.seek.Halt.TheVariants as halt
 use Rattle.search.specs.declared.attempts.Tried.{Tried}
 use Rattle.search.specs.declared.attempts.Tried.TheVariants.{Kilter, Lapped, Short, Cut}
+
+-- some price is large: it has a size above the largest that is searched at without tidying
+abbrev pub any_large : {C : Type 0} → Kind C → List C → Bool
+any_large K prices = list_any (λ p. nat_lt large (K.size p)) prices
 
 -- arc i is in kilter
 abbrev pub KilterAt : {C : Type 0} → Kind C → List (Arc C) → List ℤ → List C → ℕ → Type 0
@@ -59,3 +66,7 @@ abbrev pub Ended : {C : Type 0} → Kind C → ℕ → List (Arc C) → List ℤ
 Ended K N arcs found i budget flow prices marks after (Ok n) = Going K N arcs found i n flow prices × (n ≤ budget) × (after ≡ marks)
 Ended K N arcs found i budget flow prices marks after (Err (halt.Paused n)) = Going K N arcs found 0 n flow prices × (n ≡ budget) × LapAtHand K arcs flow prices × (after ≡ marks)
 Ended K N arcs found i budget flow prices marks after (Err halt.Cut) = (n : ℕ) × Going K N arcs found 0 n flow prices × CutMarked arcs flow after
+
+-- the search stood still: so many laps, the flow as it was, and no sign of a reduced cost turned
+abbrev pub StoodStill : {C : Type 0} → Kind C → List (Arc C) → List ℤ → List ℤ → List C → List C → ℕ → Result ℕ Halt → Type 0
+StoodStill K arcs f g ps qs laps r = (r ≡ Ok laps) × (g ≡ f) × SignsKept K arcs ps qs

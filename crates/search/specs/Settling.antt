@@ -1,5 +1,5 @@
--- How settle reads a price, and what it owes for each answer and refusal.
-use Rattle.std.specs.Prelude.{◌≡◌, ℕ, Bool, true, false, cond, List, ℤ, Ok, Err, Some, Option, Result, nat_le}
+-- What settle owes for each answer and refusal.
+use Rattle.std.specs.Prelude.{◌≡◌, ℕ, Bool, true, false, List, ℤ, Ok, Err, Some, Option, Result}
 use Rattle.std.specs.Prelude as prelude
 use Rattle.arrayvec.specs.ArrayVec.{ArrayVec}
 use Rattle.costs.specs.Kinds.{Kind}
@@ -10,10 +10,6 @@ use Rattle.search.specs.declared.seek.Halt.{Halt}
 use Rattle.search.specs.declared.seek.Halt.TheVariants as halt
 use Rattle.search.specs.declared.settling.Answer.{Answer}
 use Rattle.search.specs.declared.settling.Answer.TheVariants.{Least, Paused, None}
-
--- a price found of too large a size is read as zero
-abbrev pub read_price_as : {C : Type 0} → Kind C → ℕ → C → C
-read_price_as K limit p = cond (nat_le (K.size p) limit) p K.zero
 
 abbrev pub tables : {C : Type 0} → List ℤ → List ℤ → List C → List ℕ → Tables C
 tables flow needs prices marks = record { flow = flow; needs = needs; prices = prices; marks = marks }

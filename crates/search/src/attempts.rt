@@ -7,8 +7,8 @@ ghost use Rattle.flows.specs.searching.Fits.{Bounded};
 ghost use Rattle.reach.specs.Scans.{is_labelled};
 ghost use Rattle.reach.specs.Rounds.{large};
 ghost use Rattle.search.specs.Ready.{Ready};
-ghost use Rattle.flows.specs.searching.Prices.{Eased};
-ghost use Rattle.search.specs.Going.{KilterAt, Wanted, Attempted};
+ghost use Rattle.flows.specs.searching.Prices.{Eased, SignsKept};
+ghost use Rattle.search.specs.Going.{any_large as any_large_of, KilterAt, Wanted, Attempted};
 
 use costs::CostKind;
 use flows::{Step, View, amiss, far_end};
@@ -36,8 +36,9 @@ pub struct Choice {
     pub source: usize,
 }
 
+// Whether some price is to be tidied first.
 fn any_large<C: CostKind>(prices: &[C]) -> bool
-    ensures { result ≡ false → Bounded C.CostKind.kind large prices.now }
+    ensures { result ≡ any_large_of C.CostKind.kind prices.now }
 {
     prices.iter().any(|p| p.size() > LARGE)
 }
@@ -47,6 +48,7 @@ fn tame<N: Network>(net: &N, flow: &[i32], prices: &mut [N::Cost])
     requires { Ready N.Cost.CostKind.kind (N.meaning net.now).nodes (shown (N.meaning net.now)) flow.now prices.old }
     ensures ready { Ready N.Cost.CostKind.kind (N.meaning net.now).nodes (shown (N.meaning net.now)) flow.now prices.new }
     ensures eased { Eased N.Cost.CostKind.kind (shown (N.meaning net.now)) flow.now prices.old prices.new }
+    ensures signs { SignsKept N.Cost.CostKind.kind (shown (N.meaning net.now)) prices.old prices.new }
     ensures tame { Bounded N.Cost.CostKind.kind large prices.new }
 {
     if any_large(prices) {
@@ -92,6 +94,7 @@ pub fn attempt<N: Network>(
     ensures ready { Ready N.Cost.CostKind.kind (N.meaning net.now).nodes (shown (N.meaning net.now)) flow.new prices.new }
     ensures eased { Eased N.Cost.CostKind.kind (shown (N.meaning net.now)) flow.old prices.old prices.new }
     ensures ends { Attempted N.Cost.CostKind.kind (shown (N.meaning net.now)) i flow.old flow.new prices.new marks.old marks.new result }
+    ensures keeps { KilterAt N.Cost.CostKind.kind (shown (N.meaning net.now)) flow.old prices.old i → (result ≡ Tried.Kilter) × SignsKept N.Cost.CostKind.kind (shown (N.meaning net.now)) prices.old prices.new }
     ensures spends { (result ≡ Tried.Lapped → may_lap ≡ true) × (result ≡ Tried.Short → may_lap ≡ false) }
 {
     tame(net, flow, prices);

@@ -13,4 +13,4 @@ mod seek;
 mod settling;
 
 pub use budgets::FULL_BUDGET;
-pub use settling::{Answer, settle};
+pub use settling::{Answer, read_price, settle};

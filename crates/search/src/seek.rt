@@ -3,7 +3,9 @@
 ghost use Rattle.std.specs.Prelude.{◌≡◌, ℕ, ◌+◌, ◌<◌, ◌≤◌, List, length, ℤ};
 ghost use Rattle.networks.specs.Nets.{shown};
 ghost use Rattle.search.specs.Ready.{Ready};
-ghost use Rattle.search.specs.Going.{Going, Ended};
+ghost use Rattle.flows.specs.Flows.{EachArc};
+ghost use Rattle.flows.specs.Kilter.{InKilter};
+ghost use Rattle.search.specs.Going.{KilterAt, Going, Ended, StoodStill};
 
 use crate::attempts::{Tried, attempt};
 use networks::Network;
@@ -29,7 +31,8 @@ fn bring_in<N: Network>(
     requires arc { i < length flow.old }
     requires spent { made ≤ budget }
     requires marks { length marks.old ≡ (N.meaning net.now).nodes }
-    ensures { (found : List ℤ) → Going N.Cost.CostKind.kind (N.meaning net.now).nodes (shown (N.meaning net.now)) found i made flow.old prices.old → Ended N.Cost.CostKind.kind (N.meaning net.now).nodes (shown (N.meaning net.now)) found (i + 1) budget flow.new prices.new marks.old marks.new result }
+    ensures ends { (found : List ℤ) → Going N.Cost.CostKind.kind (N.meaning net.now).nodes (shown (N.meaning net.now)) found i made flow.old prices.old → Ended N.Cost.CostKind.kind (N.meaning net.now).nodes (shown (N.meaning net.now)) found (i + 1) budget flow.new prices.new marks.old marks.new result }
+    ensures keeps { KilterAt N.Cost.CostKind.kind (shown (N.meaning net.now)) flow.old prices.old i → StoodStill N.Cost.CostKind.kind (shown (N.meaning net.now)) flow.old flow.new prices.old prices.new made result }
 {
     let mut laps = made;
     loop {
@@ -52,7 +55,8 @@ pub fn seek<N: Network>(
 ) -> Result<u32, Halt>
     requires going { Going N.Cost.CostKind.kind (N.meaning net.now).nodes (shown (N.meaning net.now)) flow.old 0 0 flow.old prices.old }
     requires marks { length marks.old ≡ (N.meaning net.now).nodes }
-    ensures { Ended N.Cost.CostKind.kind (N.meaning net.now).nodes (shown (N.meaning net.now)) flow.old (length flow.old) budget flow.new prices.new marks.old marks.new result }
+    ensures ends { Ended N.Cost.CostKind.kind (N.meaning net.now).nodes (shown (N.meaning net.now)) flow.old (length flow.old) budget flow.new prices.new marks.old marks.new result }
+    ensures keeps { EachArc (InKilter N.Cost.CostKind.kind prices.old) (shown (N.meaning net.now)) flow.old → StoodStill N.Cost.CostKind.kind (shown (N.meaning net.now)) flow.old flow.new prices.old prices.new 0 result }
 {
     let mut laps = 0;
     // An arc goes by its place: the flow changes on the way.

@@ -1,16 +1,17 @@
 // Settle: the search for a least-cost flow from the flow found, with its answer.
 
-ghost use Rattle.std.specs.Prelude.{◌≡◌, ℕ, ◌<◌, ◌≤◌, cond, length, slice_index, slice_index_or};
+ghost use Rattle.std.specs.Prelude.{◌≡◌, ℕ, ◌<◌, ◌≤◌, length, map, slice_index};
 ghost use Rattle.networks.specs.Limits.{most_arcs};
 ghost use Rattle.networks.specs.Answers.{refusal};
 ghost use Rattle.networks.specs.Nets.{shown};
 ghost use Rattle.flows.specs.searching.Fits.{Fitting};
-ghost use Rattle.flows.specs.Kilter.{largest};
-ghost use Rattle.flows.specs.Flows.{total as total_of};
+ghost use Rattle.flows.specs.Kilter.{InKilter, largest};
+ghost use Rattle.flows.specs.Flows.{EachArc, total as total_of};
+ghost use Rattle.flows.specs.Settles.{read_price_as};
 ghost use Rattle.flows.specs.Stops.{first_stop as first_stop_of};
 ghost use Rattle.costs.specs.Kinds.{sums};
-ghost use Rattle.search.specs.Going.{Going, Ended};
-ghost use Rattle.search.specs.Settling.{read_price_as, end_of, is_none_answer, HasTotal, tables, Settled, Worded};
+ghost use Rattle.search.specs.Going.{Going, Ended, StoodStill};
+ghost use Rattle.search.specs.Settling.{end_of, is_none_answer, HasTotal, tables, Settled, Worded};
 
 use crate::guard::{Restore, save};
 use crate::seek::{Halt, seek};
@@ -42,15 +43,15 @@ fn largest_cost<N: Network>(net: &N) -> u64
     arcs_of(net).map(|arc| arc.cost.size()).max().unwrap_or(0)
 }
 
-// A price found too large is read as zero.
-fn read_price<C: CostKind>(p: C, limit: u64) -> C
+// A price found of a size above the limit is read as zero.
+pub fn read_price<C: CostKind>(p: C, limit: u64) -> C
     ensures { result ≡ read_price_as C.CostKind.kind limit p }
 {
     if p.size() <= limit { p } else { C::zero() }
 }
 
 fn read_prices<C: CostKind>(prices: &mut [C], limit: u64)
-    ensures { (k : ℕ) → k < length prices.new → slice_index_or prices.new k C.CostKind.kind.zero ≡ read_price_as C.CostKind.kind limit (slice_index_or prices.old k C.CostKind.kind.zero) }
+    ensures { prices.new ≡ map (read_price_as C.CostKind.kind limit) prices.old }
 {
     for p in prices.iter_mut() {
         *p = read_price(*p, limit);
@@ -75,6 +76,7 @@ fn search<N: Network>(
     requires few { length flow.old ≤ most_arcs }
     requires marks { length marks.old ≡ (N.meaning net.now).nodes }
     ensures ended { Ended N.Cost.CostKind.kind (N.meaning net.now).nodes (shown (N.meaning net.now)) flow.old (length flow.old) budget flow.new prices.new marks.old marks.new (end_of result) }
+    ensures keeps { EachArc (InKilter N.Cost.CostKind.kind prices.old) (shown (N.meaning net.now)) flow.old → StoodStill N.Cost.CostKind.kind (shown (N.meaning net.now)) flow.old flow.new prices.old prices.new 0 (end_of result) }
     ensures total { HasTotal result (total_of (sums N.Cost.CostKind.kind) (shown (N.meaning net.now)) flow.new) }
 {
     match seek(net, flow, prices, marks, budget) {

@@ -1,5 +1,5 @@
 use Rattle.std.proofs.Common.{◌≡◌, ℕ, ◌<◌, ◌≤◌, length, get_or}
-use Rattle.search.specs.Settling.{read_price_as}
+use Rattle.flows.specs.Settles.{read_price_as}
 use Rattle.search.proofs.settling.read_prices.Given as goal
 
 abbrev pub invariant-loop-p : goal.invariant-loop-p
