@@ -17,6 +17,5 @@ pub mod Wants
 pub mod Settling
 pub mod Nearer
 pub mod Shifts
-pub mod Tested
 pub mod RunningTotals
 pub mod Turns

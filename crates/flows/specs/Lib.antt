@@ -4,5 +4,4 @@ pub mod Laps
 pub mod Cuts
 pub mod Settles
 pub mod Stops
-pub mod Figures
 pub mod searching

@@ -64,10 +64,12 @@ pub record Kept {C : Type 0} (K : Kind C) (N : ℕ) (arcs : List (Arc C)) (found
   pub flow_stays : left.flow ≡ found.flow
   pub signs : SignsKept K arcs (prices_read K N arcs found.prices) left.prices
 
--- whatever the answer, the needs stay, and every price has a size of at most (N − 1) times the largest cost size; a flow in kilter at the prices as read is kept, with any budget
+-- whatever the answer, the needs stay, there are as many prices and marks as before, and every price has a size of at most (N − 1) times the largest cost size; a flow in kilter at the prices as read is kept, with any budget
 pub record Settles {C : Type 0} (K : Kind C) (N : ℕ) (arcs : List (Arc C)) (budget : ℕ) (found : Tables C) (answer : Answered C) (left : Tables C) : Type 0 where
   pub answers : Answers K N arcs budget found answer left
   pub needs_stay : left.needs ≡ found.needs
+  pub prices_long : length left.prices ≡ length found.prices
+  pub marks_long : length left.marks ≡ length found.marks
   pub small_prices : AllByRecursion (λ p. K.size p ≤ (N - 1) * largest K arcs) left.prices
   pub kept : EachArc (InKilter K (prices_read K N arcs found.prices)) arcs found.flow → Kept K N arcs found answer left
 

@@ -12,7 +12,6 @@
 
 mod arcs;
 mod balances;
-mod figures;
 mod kilter;
 mod outside;
 mod pricing;
@@ -24,7 +23,6 @@ mod views;
 
 pub use arcs::{Arcs, arcs_of};
 pub use balances::{imbalance, imbalances};
-pub use figures::{Case, Figure, Verdict, worked_figures};
 pub use kilter::amiss;
 pub use outside::distance;
 pub use pricing::{opposite, price_at, raise, reduced, sum};

@@ -65,5 +65,5 @@ returns g c =
     let kept = λ (k : EachArc (InKilter K (prices_read K n.nodes (shown n) ps)) (shown n) flow).
     kept_by K laws n.nodes (shown n) flow needs' f c.drop-guard.new.self.0 ps c.read_prices.new.prices qs rs marks after a read
     (c.search-answer.ensures.keeps (subst (λ z. EachArc (InKilter K z) (shown n) flow) (sym read) k)) c.search-answer.ensures.total c.tidy.ensures left in
-    let settled = settled_by K n c.args.budget flow needs' ps marks a c.drop-guard.new.self.0 rs after answers (small_prices K laws n.nodes (shown n) flow f qs rs c.tidy.ensures ready.priced) kept in
+    let settled = settled_by K n c.args.budget flow needs' ps marks a c.drop-guard.new.self.0 rs after answers (small_prices K laws n.nodes (shown n) flow f qs rs c.tidy.ensures ready.priced) kept (c.tidy.auto.prices ∙ c.search-answer.auto.prices ∙ c.read_prices.auto.prices) (c.search-answer.auto.marks ∙ c.clear.auto.marks) in
     record { stops = sym none; settles = settled; words = words_follow K laws n c.args.budget (tables flow needs' ps marks) (Ok a) _ none settled }

@@ -1,0 +1,4 @@
+pub mod Tests
+pub mod Foretelling
+pub mod Forced
+pub mod Figured
