@@ -34,9 +34,9 @@ ten = rebounded nine 4 (pos 10) (pos 10)
 
 triangle_right : (p : State Plain) → Begins triangle_figure p → Right plain_kind triangle_figure p
 triangle_right = right_by plain_kind triangle_figure refl (λ ps ms priced marked.
-    least_then plain_kind plain_laws triangle (no_flow 4) needs ps ms priced marked refl triangle_flow triangle_prices (drop 1 triangle_figure.calls) refl refl six_round (λ qs ns priced marked.
+    least_then plain_kind plain_laws triangle (no_flow 4) needs ps ms priced marked refl triangle_flow triangle_prices (drop 1 triangle_figure.calls) refl six_round (λ qs ns priced marked.
     done_then plain_kind (state triangle triangle_flow needs qs ns) (state nine triangle_flow needs qs ns) (rebound 4 (pos 9) (pos 9)) (drop 2 triangle_figure.calls) refl (λ o q h. h)
-    (least_then plain_kind plain_laws nine triangle_flow needs qs ns priced marked refl nine_flow triangle_prices (drop 3 triangle_figure.calls) refl refl nine_round (λ rs os priced marked.
+    (least_then plain_kind plain_laws nine triangle_flow needs qs ns priced marked refl nine_flow triangle_prices (drop 3 triangle_figure.calls) refl nine_round (λ rs os priced marked.
     done_then plain_kind (state nine nine_flow needs rs os) (state ten nine_flow needs rs os) (rebound 4 (pos 10) (pos 10)) (drop 4 triangle_figure.calls) refl (λ o q h. h)
     (none_then plain_kind plain_laws ten nine_flow needs rs os priced marked refl (1 ∷ 0 ∷ 0 ∷ []) [] refl (λ ss ts priced marked. tt))))))
 
@@ -52,19 +52,19 @@ lockout_right = right_by plain_kind lockout_figure refl (λ ps ms priced marked.
     done_then plain_kind (state lockout_figure.net (no_flow 4) needs ps ms) (state out (no_flow 4) needs ps ms) (take_out 1 3) (drop 1 lockout_figure.calls) refl (λ o q h. h)
     (none_then plain_kind plain_laws out (no_flow 4) needs ps ms priced marked refl (1 ∷ 0 ∷ 0 ∷ []) (drop 2 lockout_figure.calls) refl (λ qs ns priced marked.
     done_then plain_kind (state out (no_flow 4) needs qs ns) (state back (no_flow 4) needs qs ns) (hand_back 1 3) (drop 3 lockout_figure.calls) refl (λ o q h. h)
-    (least_then plain_kind plain_laws back (no_flow 4) needs qs ns priced marked refl triangle_flow triangle_prices [] refl refl six_round (λ rs os priced marked. tt)))))
+    (least_then plain_kind plain_laws back (no_flow 4) needs qs ns priced marked refl triangle_flow triangle_prices [] refl six_round (λ rs os priced marked. tt)))))
 
 loop_up_right : (p : State Plain) → Begins (loop_figure (negsuc 0) (least_by (units (negsuc 2)) (pos 3 ∷ []) (units (pos 0) ∷ []))) p → Right plain_kind (loop_figure (negsuc 0) (least_by (units (negsuc 2)) (pos 3 ∷ []) (units (pos 0) ∷ []))) p
 loop_up_right = right_by plain_kind (loop_figure (negsuc 0) (least_by (units (negsuc 2)) (pos 3 ∷ []) (units (pos 0) ∷ []))) refl (λ ps ms priced marked.
-    least_then plain_kind plain_laws (loop (negsuc 0)) (no_flow 1) (needs_at (loop (negsuc 0)) (no_flow 1)) ps ms priced marked refl (pos 3 ∷ []) (units (pos 0) ∷ []) [] refl refl loop_up (λ qs ns priced marked. tt))
+    least_then plain_kind plain_laws (loop (negsuc 0)) (no_flow 1) (needs_at (loop (negsuc 0)) (no_flow 1)) ps ms priced marked refl (pos 3 ∷ []) (units (pos 0) ∷ []) [] refl loop_up (λ qs ns priced marked. tt))
 
 loop_down_right : (p : State Plain) → Begins (loop_figure (pos 1) (least_by (units (negsuc 1)) (negsuc 1 ∷ []) (units (pos 0) ∷ []))) p → Right plain_kind (loop_figure (pos 1) (least_by (units (negsuc 1)) (negsuc 1 ∷ []) (units (pos 0) ∷ []))) p
 loop_down_right = right_by plain_kind (loop_figure (pos 1) (least_by (units (negsuc 1)) (negsuc 1 ∷ []) (units (pos 0) ∷ []))) refl (λ ps ms priced marked.
-    least_then plain_kind plain_laws (loop (pos 1)) (no_flow 1) (needs_at (loop (pos 1)) (no_flow 1)) ps ms priced marked refl (negsuc 1 ∷ []) (units (pos 0) ∷ []) [] refl refl loop_down (λ qs ns priced marked. tt))
+    least_then plain_kind plain_laws (loop (pos 1)) (no_flow 1) (needs_at (loop (pos 1)) (no_flow 1)) ps ms priced marked refl (negsuc 1 ∷ []) (units (pos 0) ∷ []) [] refl loop_down (λ qs ns priced marked. tt))
 
 line_right : (p : State Plain) → Begins (line_figure (pos 3) (least_at_once (units (pos 3)) (pos 3 ∷ []) (units (pos 0) ∷ units (pos 1) ∷ []))) p → Right plain_kind (line_figure (pos 3) (least_at_once (units (pos 3)) (pos 3 ∷ []) (units (pos 0) ∷ units (pos 1) ∷ []))) p
 line_right = right_by plain_kind (line_figure (pos 3) (least_at_once (units (pos 3)) (pos 3 ∷ []) (units (pos 0) ∷ units (pos 1) ∷ []))) refl (λ ps ms priced marked.
-    at_once_then plain_kind plain_laws line (pos 3 ∷ []) (needs_at line (pos 3 ∷ [])) ps ms priced marked refl (pos 3 ∷ []) (units (pos 0) ∷ units (pos 1) ∷ []) [] refl refl three_along still (λ qs ns priced marked. tt))
+    at_once_then plain_kind plain_laws line (pos 3 ∷ []) (needs_at line (pos 3 ∷ [])) ps ms priced marked refl (pos 3 ∷ []) (units (pos 0) ∷ units (pos 1) ∷ []) [] refl three_along still (λ qs ns priced marked. tt))
 
 line_none : (p : State Plain) → Begins (line_figure (pos 6) (none_by (1 ∷ 0 ∷ []))) p → Right plain_kind (line_figure (pos 6) (none_by (1 ∷ 0 ∷ []))) p
 line_none = right_by plain_kind (line_figure (pos 6) (none_by (1 ∷ 0 ∷ []))) refl (λ ps ms priced marked.
@@ -72,7 +72,7 @@ line_none = right_by plain_kind (line_figure (pos 6) (none_by (1 ∷ 0 ∷ [])))
 
 closing_right : (p : State Plain) → Begins closing_figure p → Right plain_kind closing_figure p
 closing_right = right_by plain_kind closing_figure refl (λ ps ms priced marked.
-    least_then plain_kind plain_laws closing_figure.net (no_flow 4) (needs_at closing_figure.net (no_flow 4)) ps ms priced marked refl (pos 4 ∷ pos 4 ∷ pos 4 ∷ pos 4 ∷ []) (units (pos 0) ∷ units (pos 1) ∷ units (pos 10) ∷ units (pos 0) ∷ []) [] refl refl four_through (λ qs ns priced marked. tt))
+    least_then plain_kind plain_laws closing_figure.net (no_flow 4) (needs_at closing_figure.net (no_flow 4)) ps ms priced marked refl (pos 4 ∷ pos 4 ∷ pos 4 ∷ pos 4 ∷ []) (units (pos 0) ∷ units (pos 1) ∷ units (pos 10) ∷ units (pos 0) ∷ []) [] refl four_through (λ qs ns priced marked. tt))
 
 -- the two hours with less from the mains
 abbrev day_flow : List ℤ
@@ -89,14 +89,14 @@ less = rebounded less_first 7 (pos 0) (pos 2)
 
 chain_right : (p : State Plain) → Begins chain_figure p → Right plain_kind chain_figure p
 chain_right = right_by plain_kind chain_figure refl (λ ps ms priced marked.
-    least_then plain_kind plain_laws chain_figure.net (no_flow 10) day_needs ps ms priced marked refl day_flow (units (pos 0) ∷ units (pos 5) ∷ units (pos 0) ∷ []) (drop 1 chain_figure.calls) refl refl day (λ qs ns priced marked.
+    least_then plain_kind plain_laws chain_figure.net (no_flow 10) day_needs ps ms priced marked refl day_flow (units (pos 0) ∷ units (pos 5) ∷ units (pos 0) ∷ []) (drop 1 chain_figure.calls) refl day (λ qs ns priced marked.
     done_then plain_kind (state chain_figure.net day_flow day_needs qs ns) (state less_first day_flow day_needs qs ns) (rebound 2 (pos 0) (pos 2)) (drop 2 chain_figure.calls) refl (λ o q h. h)
     (done_then plain_kind (state less_first day_flow day_needs qs ns) (state less day_flow day_needs qs ns) (rebound 7 (pos 0) (pos 2)) (drop 3 chain_figure.calls) refl (λ o q h. h)
     (none_then plain_kind plain_laws less day_flow day_needs qs ns priced marked refl (1 ∷ 0 ∷ 1 ∷ []) [] refl (λ rs os priced marked. tt)))))
 
 tiers_right : (p : State TwoTier) → Begins tiers_figure p → Right two_tier_kind tiers_figure p
 tiers_right = right_by two_tier_kind tiers_figure refl (λ ps ms priced marked.
-    least_then two_tier_kind two_tier_laws tiers_figure.net (no_flow 3) (needs_at tiers_figure.net (no_flow 3)) ps ms priced marked refl (pos 0 ∷ pos 3 ∷ pos 3 ∷ []) (tiers (pos 0) (pos 0) ∷ tiers (pos 0) (pos 9) ∷ []) [] refl refl by_second (λ qs ns priced marked. tt))
+    least_then two_tier_kind two_tier_laws tiers_figure.net (no_flow 3) (needs_at tiers_figure.net (no_flow 3)) ps ms priced marked refl (pos 0 ∷ pos 3 ∷ pos 3 ∷ []) (tiers (pos 0) (pos 0) ∷ tiers (pos 0) (pos 9) ∷ []) [] refl by_second (λ qs ns priced marked. tt))
 
 pub all_right : AllRight worked
 all_right = (triangle_right, (lockout_right, (loop_up_right, (loop_down_right, (line_right, (line_none, (closing_right, (chain_right, (tiers_right, tt)))))))))

@@ -9,17 +9,19 @@ use Rattle.flows.specs.Kilter.{InKilter, lap_limit}
 use Rattle.flows.specs.Laps.{Lap, Better, Laps}
 use Rattle.flows.specs.Cuts.{MarksCut, marked}
 use Rattle.flows.specs.Stops.{first_stop, open_stop}
+use Rattle.flows.specs.Passing.{pass_stop}
 use Rattle.flows.specs.Settles.{Answered, least, paused, none, Answers, Settles, InWords}
 use Rattle.flows.proofs.Fitted.{Passed, no_stop}
 use Rattle.flows.proofs.Least.{kilter_is_least, kilter_within}
 use Rattle.flows.proofs.Cuts.{cut_shows_none}
 use Rattle.flows.proofs.Settling.{in_words}
+use Rattle.flows.proofs.Passes.{passes, all_in_kilter}
 use Rattle.runs.specs.States.{State, state, opening_stop, opened}
 use Rattle.runs.specs.Events.{Asked, settle, Came, settled, done, event}
 use Rattle.runs.specs.Steps.{stop_of, Grants, Does, Step}
 use Rattle.runs.proofs.Ways.{all_ends}
 use Rattle.figures.specs.Figures.{Due, least_by, least_at_once, none_by, is_done, Figure, Foretold, Begins, Right}
-use Rattle.figures.proofs.Tests.{cuts, cuts_pass, meets_own, calm, calm_pass}
+use Rattle.figures.proofs.Tests.{cuts, cuts_pass}
 
 module _ {C : Type 0} (K : Kind C) where
   -- a plan by its network, its flow and its needs
@@ -118,14 +120,32 @@ module _ {C : Type 0} (K : Kind C) where
     next_from : (g : List ℤ) (calls : List (Asked C × Due C)) (q : State C) → Left q → q.tables.flow ≡ g → Next g calls → Foretold K q calls
     next_from g calls q l e next = subst (λ z. Foretold K z calls) (sym (plan_is q n g needs l.net e l.needs_are)) (next q.tables.prices q.tables.marks l.prices_long l.marks_long)
 
-    pub least_then : (g : List ℤ) (prices : List C) (calls : List (Asked C × Due C)) → calm K prices (shown n) g ≡ true → needs ≡ imbalances_from 1 n.nodes (shown n) g → Alone g → Next g calls →
+    -- a flow that passes at some prices
+    abbrev pub Passing : List ℤ → List C → Type 0
+    Passing g prices = pass_stop K n g needs prices n.nodes ≡ None
+
+    passing_left : (g : List ℤ) (prices : List C) (q : State C) → Passing g prices → Left q → pass_stop K q.net g q.tables.needs prices (length q.tables.marks) ≡ None
+    passing_left g prices q e l =
+        ap (λ m. pass_stop K m g q.tables.needs prices (length q.tables.marks)) l.net
+        ∙ ap (λ ds. pass_stop K n g ds prices (length q.tables.marks)) l.needs_are
+        ∙ ap (λ k. pass_stop K n g needs prices k) l.marks_long
+        ∙ e
+
+    like_passing : (g : List ℤ) (prices : List C) → Passing g prices → (o : Came C) (q : State C) (x : Answered C) → o ≡ settled x →
+        Settles K n.nodes (shown n) budget found.tables x q.tables → LeastLike g o q
+    like_passing g prices e =
+        let s = passes K n g needs prices n.nodes e in
+        let p = no_stop K n g needs (length prices) n.nodes s.0 in
+        least_like g prices (all_in_kilter K prices 1 (shown n) g (p.flow_long ∙ sym (length_shown n)) s.1) p.meets
+
+    pub least_then : (g : List ℤ) (prices : List C) (calls : List (Asked C × Due C)) → Passing g prices → Alone g → Next g calls →
         Foretold K found ((settle budget, least_by (total (sums K) (shown n) g) g prices) ∷ calls)
-    least_then g prices calls calms own alone next o q s =
-        let kilter = calm_pass K prices (shown n) g calms in
+    least_then g prices calls pass alone next o q s =
         let (x, is, same, r) = settled_step o q s in
-        let l = least_like g prices kilter (meets_own n.nodes (shown n) needs g own) o q x is r in
+        let l = like_passing g prices pass o q x is r in
         let e : q.tables.flow ≡ g = alone q.tables.flow l.within l.meets l.costs in
-        ((l.laps, (l.outcome, e, subst (λ (m : Net C). EachArc (InKilter K prices) (shown m) g) (sym same) kilter)), next_from g calls q (left_by q x same r) e next)
+        let left = left_by q x same r in
+        ((l.laps, (l.outcome, e, passing_left g prices q pass left)), next_from g calls q left e next)
 
     -- no lap leads to a better flow
     abbrev pub NoLap : Type 0
@@ -135,15 +155,15 @@ module _ {C : Type 0} (K : Kind C) where
     no_laps never zero f e = refl
     no_laps never (suc m) f (h, lap, better, rest) = absurd (never h lap better)
 
-    pub at_once_then : (g : List ℤ) (prices : List C) (calls : List (Asked C × Due C)) → calm K prices (shown n) g ≡ true → needs ≡ imbalances_from 1 n.nodes (shown n) g → Alone g → NoLap → Next g calls →
+    pub at_once_then : (g : List ℤ) (prices : List C) (calls : List (Asked C × Due C)) → Passing g prices → Alone g → NoLap → Next g calls →
         Foretold K found ((settle budget, least_at_once (total (sums K) (shown n) g) g prices) ∷ calls)
-    at_once_then g prices calls calms own alone never next o q s =
-        let kilter = calm_pass K prices (shown n) g calms in
+    at_once_then g prices calls pass alone never next o q s =
         let (x, is, same, r) = settled_step o q s in
-        let l = least_like g prices kilter (meets_own n.nodes (shown n) needs g own) o q x is r in
+        let l = like_passing g prices pass o q x is r in
         let e : q.tables.flow ≡ g = alone q.tables.flow l.within l.meets l.costs in
         let z : l.laps ≡ 0 = no_laps never l.laps q.tables.flow l.lapped in
-        ((l.outcome ∙ ap (λ k. settled (least (total (sums K) (shown n) g) k)) z, e, subst (λ (m : Net C). EachArc (InKilter K prices) (shown m) g) (sym same) kilter), next_from g calls q (left_by q x same r) e next)
+        let left = left_by q x same r in
+        ((l.outcome ∙ ap (λ k. settled (least (total (sums K) (shown n) g) k)) z, e, passing_left g prices q pass left), next_from g calls q left e next)
 
     pub none_then : (marks : List ℕ) (calls : List (Asked C × Due C)) → cuts (shown n) needs marks ≡ true → Next flow calls →
         Foretold K found ((settle budget, none_by marks) ∷ calls)

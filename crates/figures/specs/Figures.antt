@@ -6,15 +6,14 @@ use Rattle.costs.specs.Models.{plain_kind, two_tier_kind}
 use Rattle.costs.specs.declared.Plain.{Plain}
 use Rattle.costs.specs.declared.TwoTier.{TwoTier}
 use Rattle.networks.specs.Nets.{Net, shown}
-use Rattle.flows.specs.Flows.{EachArc}
-use Rattle.flows.specs.Kilter.{InKilter}
 use Rattle.flows.specs.Cuts.{MarksCut}
+use Rattle.flows.specs.Passing.{pass_stop}
 use Rattle.flows.specs.Settles.{least, none}
 use Rattle.runs.specs.States.{State, state, opening_stop, opened}
 use Rattle.runs.specs.Events.{Asked, Came, settled, done, event}
 use Rattle.runs.specs.Steps.{Step}
 
--- what is due of a call: least, of this total by this flow alone, with no arc out of kilter at these prices; the same with no lap; none, with these marks a cut; or that it is done
+-- what is due of a call: least, of this total by this flow alone, which passes at these prices; the same with no lap; none, with these marks a cut; or that it is done
 pub data Due (C : Type 0) : Type 0 where
   least_by : C → List ℤ → List C → Due C
   least_at_once : C → List ℤ → List C → Due C
@@ -26,9 +25,9 @@ pub record Figure (C : Type 0) : Type 0 where
   pub flow : List ℤ
   pub calls : List (Asked C × Due C)
 
--- least of that total with so many laps, and the flow left is that one, in kilter at those prices
+-- least of that total with so many laps, and the flow left is that one, which passes at those prices
 abbrev pub ComesToLeast : {C : Type 0} → Kind C → C → ℕ → List ℤ → List C → Came C → State C → Type 0
-ComesToLeast K cost laps flow prices outcome left = (outcome ≡ settled (least cost laps)) × (left.tables.flow ≡ flow) × EachArc (InKilter K prices) (shown left.net) flow
+ComesToLeast K cost laps flow prices outcome left = (outcome ≡ settled (least cost laps)) × (left.tables.flow ≡ flow) × (pass_stop K left.net flow left.tables.needs prices (length left.tables.marks) ≡ None)
 
 -- the outcome of a call, and the plan that it leaves, are what is due
 abbrev pub ComesTo : {C : Type 0} → Kind C → Due C → Came C → State C → Type 0

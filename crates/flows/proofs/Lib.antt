@@ -15,6 +15,7 @@ pub mod Rooms
 pub mod Prices
 pub mod Wants
 pub mod Settling
+pub mod Passes
 pub mod Nearer
 pub mod Shifts
 pub mod RunningTotals

@@ -4,4 +4,5 @@ pub mod Laps
 pub mod Cuts
 pub mod Settles
 pub mod Stops
+pub mod Passing
 pub mod searching

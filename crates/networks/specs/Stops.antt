@@ -1,7 +1,7 @@
 -- The number and the place that each stop is told by.
 use Rattle.std.specs.Prelude.{ℕ, List, ◌++◌, decimal, codes}
 use Rattle.networks.specs.declared.stops.Stop.{Stop}
-use Rattle.networks.specs.declared.stops.Stop.TheVariants.{Counts, Lengths, Ends, Cost, Flow, Imbalance, Bounds, Absent, Held, Fixed, Full, NotOut}
+use Rattle.networks.specs.declared.stops.Stop.TheVariants.{Counts, Lengths, Ends, Cost, Flow, Imbalance, Bounds, Absent, Held, Fixed, Full, NotOut, Kilter}
 
 abbrev pub told : Stop → ℕ × ℕ
 told Counts = (1, 0)
@@ -16,6 +16,7 @@ told (Held a) = (9, a)
 told (Fixed a) = (10, a)
 told Full = (11, 0)
 told (NotOut a) = (12, a)
+told (Kilter a) = (14, a)
 
 -- how a stop is printed: its number, a blank, and its place
 abbrev pub stop_text : Stop → List ℕ

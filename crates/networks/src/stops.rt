@@ -31,6 +31,8 @@ pub enum Stop {
     Full,
     // This arc is not out in this layer.
     NotOut(usize),
+    // This arc is out of kilter at the prices of the plan.
+    Kilter(usize),
 }
 
 impl Stop {
@@ -50,6 +52,7 @@ impl Stop {
             Stop::Fixed(_) => 10,
             Stop::Full => 11,
             Stop::NotOut(_) => 12,
+            Stop::Kilter(_) => 14,
         }
     }
 
@@ -59,7 +62,7 @@ impl Stop {
         match self {
             Stop::Counts | Stop::Lengths | Stop::Full => 0,
             Stop::Ends(a) | Stop::Cost(a) | Stop::Flow(a) | Stop::Bounds(a) => a,
-            Stop::Held(a) | Stop::Fixed(a) | Stop::NotOut(a) => a,
+            Stop::Held(a) | Stop::Fixed(a) | Stop::NotOut(a) | Stop::Kilter(a) => a,
             Stop::Imbalance(n) | Stop::Absent(n) => n,
         }
     }

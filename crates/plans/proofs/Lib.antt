@@ -3,3 +3,4 @@ pub mod Opened
 pub mod Making
 pub mod Whole
 pub mod Every
+pub mod Passable

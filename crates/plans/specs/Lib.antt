@@ -1,2 +1,4 @@
 pub mod Keeping
 pub mod Lists
+pub mod Passing
+pub mod Orders

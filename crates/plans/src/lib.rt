@@ -12,10 +12,12 @@
 mod changing;
 mod listing;
 mod opening;
+mod passed;
 mod running;
 mod settling;
 
 pub use changing::{hand_back, rebound, recost, take_out};
 pub use opening::open;
+pub use passed::{Passed, pass};
 pub use running::run;
 pub use settling::{settle, take_up};
