@@ -5,6 +5,8 @@
 #[cfg(test)]
 mod doubling;
 #[cfg(test)]
+mod passing;
+#[cfg(test)]
 mod refused;
 #[cfg(test)]
 mod triangles;
