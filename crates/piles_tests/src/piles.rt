@@ -1,6 +1,6 @@
 // Runs on piles: a closing between two lock-outs over a table, and an hour chain under a pile.
 
-use costs::Plain;
+use costs::{Plain, TwoTier};
 use hours::{HourRow, new_chain};
 use layers::Draft;
 use makes::ArcTable;
@@ -8,7 +8,7 @@ use networks::{Lockout, Stop};
 use runs::{Call, Outcome};
 use search::{Answer, FULL_BUDGET};
 use std::test::Fail;
-use tests_kit::{ZERO, bounds, is_least, row, run_all, triangle};
+use tests_kit::{ZERO, bounds, is_least, row, run_all, tiers, triangle};
 
 #[test]
 fn closing_in_a_pile(rt: HostRuntime) -> Result<(), Fail> {
@@ -156,5 +156,50 @@ fn hours_in_a_pile(rt: HostRuntime) -> Result<(), Fail> {
     assert_eq!(rt; outcomes[1], Outcome::Settled(Answer::None));
     assert!(rt; is_least(outcomes[3], 15));
     assert_eq!(rt; flow, [5, 0, 0, 2, 4, 0, 3, 0, 6, 1, 0]);
+    Ok(())
+}
+
+// One hour: sun and mains at the same first cost, of which mains is cheaper in the second, and a lamp of 2.
+fn one_hour() -> [HourRow<TwoTier>; 5] {
+    let at = |lo, hi, cost| HourRow { lo, hi, cost };
+    [
+        at(0, 3, tiers(1, 9)),
+        at(0, 3, tiers(1, 2)),
+        at(0, 3, tiers(2, 0)),
+        at(2, 2, tiers(0, 0)),
+        at(0, 0, tiers(0, 0)),
+    ]
+}
+
+fn is_total(o: Outcome<TwoTier>, first: i64, second: i64) -> bool {
+    matches!(o, Outcome::Settled(Answer::Least { total, laps: _ }) if total == tiers(first, second))
+}
+
+// A supply of 1 at the hour and a demand of 1 outside gain 1 in the first cost on the return arc.
+#[test]
+fn two_tiers_in_a_pile(rt: HostRuntime) -> Result<(), Fail> {
+    let mut rows = one_hour();
+    let chain = Lockout::new(new_chain(1, &mut rows));
+    let mut draft = Draft::new(chain, bounds(0, 1)?, tiers(-1, 0));
+    assert!(rt; draft.supply(1, bounds(0, 1)?).is_ok());
+    assert!(rt; draft.demand(2, bounds(0, 1)?).is_ok());
+    let mut net = draft.close();
+    let calls = [
+        Call::Settle {
+            budget: FULL_BUDGET,
+        },
+        Call::TakeOut { layer: 1, arc: 2 },
+        Call::Settle {
+            budget: FULL_BUDGET,
+        },
+        Call::HandBack { layer: 1, arc: 2 },
+    ];
+    let mut flow = [0; 8];
+    let mut prices = [tiers(0, 0); 4];
+    let outcomes = run_all(&mut net, &mut flow, &mut prices, &[], &calls)?;
+    assert!(rt; is_total(outcomes[0], 0, 2));
+    assert!(rt; is_total(outcomes[2], 0, 9));
+    assert_eq!(rt; outcomes[3], Outcome::Done);
+    assert_eq!(rt; flow, [1, 0, 0, 2, 0, 1, 1, 1]);
     Ok(())
 }

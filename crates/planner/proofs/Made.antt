@@ -4,6 +4,7 @@ use Rattle.costs.specs.Kinds.{Kind}
 use Rattle.networks.specs.declared.stops.Stop.{Stop}
 use Rattle.networks.specs.Answers.{Told}
 use Rattle.networks.specs.Limits.{most_arcs}
+use Rattle.networks.specs.Rings.{Places}
 use Rattle.flows.specs.Kilter.{lap_limit}
 use Rattle.search.specs.declared.settling.Answer.{Answer}
 use Rattle.runs.specs.declared.calls.Call.{Call}
@@ -26,14 +27,14 @@ not_done K p q budget o s is = go (stop_of K p (settle budget)) refl
     go (Some t) h = let bad : done ≡ refused t = sym is ∙ (s.refuses t h).0 in absurd cc
 
 -- what the list leaves: its one outcome, and the ring
-pub record Once {C : Type 0} (K : Kind C) (begun left : State C) (places after : List ℕ) (outcomes : List (Outcome C)) : Type 0 where
+pub record Once {C : Type 0} (K : Kind C) (begun left : State C) (places after : Places) (outcomes : List (Outcome C)) : Type 0 where
   pub outcome : Outcome C
   pub is : outcomes ≡ outcome ∷ []
   pub steps : Steps K begun (event (settle (lap_limit most_arcs)) (came outcome) ∷ []) left
   pub law : Run K begun (event (settle (lap_limit most_arcs)) (came outcome) ∷ []) left
   pub ring : after ≡ places
 
-pub made_once : {C : Type 0} (K : Kind C) (begun left : State C) (places after : List ℕ) (o : Outcome C) (made : ℕ) (outcomes : List (Outcome C)) → MakesAll K begun places [] full_settle (o ∷ []) made left after outcomes → Run K begun (events [] (take made full_settle) (take made outcomes)) left → Once K begun left places after outcomes
+pub made_once : {C : Type 0} (K : Kind C) (begun left : State C) (places after : Places) (o : Outcome C) (made : ℕ) (outcomes : List (Outcome C)) → MakesAll K begun places [] full_settle (o ∷ []) made left after outcomes → Run K begun (events [] (take made full_settle) (take made outcomes)) left → Once K begun left places after outcomes
 made_once K begun left places after o zero outcomes m law = absurd (short (m.early (Settle (lap_limit most_arcs)) (omega arith, refl)))
   where
     short : (1 ≤ 0) ⊎ ⊥ → ⊥
@@ -53,7 +54,7 @@ made_once {C} K begun left places after o (suc zero) (x ∷ xs) m law = record {
     kept true = refl
     kept false = refl
 
-module _ {C : Type 0} (K : Kind C) (found left : State C) (places after : List ℕ) (o : Outcome C) (outcomes : List (Outcome C)) where
+module _ {C : Type 0} (K : Kind C) (found left : State C) (places after : Places) (o : Outcome C) (outcomes : List (Outcome C)) where
   -- the list that is made is this one
   pub listed : (cs : List (Call C)) (os : List (Outcome C)) (r : Result ℕ Stop) → cs ≡ full_settle → os ≡ o ∷ [] → Runs K found places [] cs os r left after outcomes → Runs K found places [] full_settle (o ∷ []) r left after outcomes
   listed cs os r one room run = subst₂ (λ xs ys. Runs K found places [] xs ys r left after outcomes) one room run

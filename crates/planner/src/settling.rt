@@ -45,7 +45,7 @@ fn make_settle<N: Network>(
     requires room { outcomes.old ≡ Done ∷ [] }
     ensures { SettlesOnce N.Cost.CostKind.kind (state (N.meaning net.old) flow.old needs.old prices.old marks.old) result (state (N.meaning net.new) flow.new needs.new prices.new marks.new) }
 {
-    let mut tags = TagRing::new();
+    let mut tags = TagRing::<0>::new();
     run(
         net,
         flow,

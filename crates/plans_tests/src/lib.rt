@@ -9,4 +9,6 @@ mod passing;
 #[cfg(test)]
 mod refused;
 #[cfg(test)]
+mod stops;
+#[cfg(test)]
 mod triangles;

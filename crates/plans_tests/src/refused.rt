@@ -7,7 +7,7 @@ use plans::run;
 use runs::{Call, Outcome};
 use search::{Answer, FULL_BUDGET};
 use std::test::Fail;
-use tests_kit::{ZERO, bounds, close, triangle};
+use tests_kit::{ROOM, ZERO, bounds, close, triangle};
 
 // The tables of a plan over the triangle.
 #[derive(Clone, Copy, Debug, PartialEq, Eq)]
@@ -24,8 +24,8 @@ fn make<const CALLS: usize>(
     plan: &mut Tables,
     calls: &[Call<Plain>; CALLS],
 ) -> Result<[Outcome<Plain>; CALLS], Fail> {
-    let mut outcomes = [Outcome::Done; CALLS];
-    let mut tags = TagRing::new();
+    let mut outcomes = [Outcome::Refused(Stop::Counts); CALLS];
+    let mut tags = TagRing::<ROOM>::new();
     let made = run(
         net,
         &mut plan.flow,

@@ -125,26 +125,59 @@ fn two_nodes(rt: HostRuntime) -> Result<(), Fail> {
     Ok(())
 }
 
-// Sixteen lines are out, the next take-out finds none free, and all are handed back; the last call has no tag.
+// Sixteen lines are out, the next take-out finds none free, and all are handed back, that one first.
 fn seventeen(heap: Global) -> Result<Vec<Call<Plain>>, AllocError> {
     let outs = (1..18).map(|arc| Call::TakeOut { layer: 1, arc });
-    let backs = (1..18).map(|arc| Call::HandBack { layer: 1, arc });
+    let backs = (1..18).map(|i| Call::HandBack {
+        layer: 1,
+        arc: 18 - i,
+    });
     outs.chain(backs).collect(heap)
 }
 
 #[test]
-fn full_and_short(rt: HostRuntime) -> Result<(), Fail> {
+fn full_and_never_out(rt: HostRuntime) -> Result<(), Fail> {
     let mut rows = [row(1, 1, 0, 5, 1); 17];
     let mut net = Lockout::new(ArcTable::new(1, 17, &mut rows));
     let calls = seventeen(rt.alloc())?;
-    let mut outcomes = [Outcome::Done; 34];
+    let mut outcomes = [Outcome::Refused(Stop::Counts); 34];
     let mut flow = [0; 17];
     let mut prices = [ZERO; 1];
     let made = run_some(&mut net, &mut flow, &mut prices, &[], &calls, &mut outcomes)?;
-    assert_eq!(rt; made, 33);
+    assert_eq!(rt; made, 34);
     assert_eq!(rt; outcomes[15], Outcome::Done);
     assert_eq!(rt; outcomes[16], Outcome::Refused(Stop::Full));
-    assert_eq!(rt; outcomes[32], Outcome::Done);
+    assert_eq!(rt; outcomes[17], Outcome::Refused(Stop::NotOut(17)));
+    assert_eq!(rt; outcomes[18], Outcome::Done);
+    assert_eq!(rt; outcomes[33], Outcome::Done);
+    Ok(())
+}
+
+// Sixteen arcs are taken out at each of five lock-outs, and handed back there.
+fn eighty_out(heap: Global) -> Result<Vec<Call<Plain>>, AllocError> {
+    let outs = (0..80).map(|i| Call::TakeOut {
+        layer: 1 + i / 16,
+        arc: 1 + i % 16,
+    });
+    let backs = (0..80).map(|i| Call::HandBack {
+        layer: 1 + i / 16,
+        arc: 1 + i % 16,
+    });
+    outs.chain(backs).collect(heap)
+}
+
+#[test]
+fn eighty_tags(rt: HostRuntime) -> Result<(), Fail> {
+    let mut rows = [row(1, 1, 0, 5, 1); 16];
+    let three = Lockout::new(Lockout::new(Lockout::new(ArcTable::new(1, 16, &mut rows))));
+    let mut net = Lockout::new(Lockout::new(three));
+    let calls = eighty_out(rt.alloc())?;
+    let mut outcomes = [Outcome::Refused(Stop::Counts); 160];
+    let mut flow = [0; 16];
+    let mut prices = [ZERO; 1];
+    let made = run_some(&mut net, &mut flow, &mut prices, &[], &calls, &mut outcomes)?;
+    assert_eq!(rt; made, 160);
+    assert!(rt; outcomes.iter().all(|outcome| *outcome == Outcome::Done));
     Ok(())
 }
 

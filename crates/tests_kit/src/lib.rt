@@ -3,12 +3,15 @@
 
 use costs::{Plain, TwoTier};
 use makes::Row;
-use networks::{Bounds, Network, TagRing};
+use networks::{Bounds, Network, Stop, TagRing};
 use plans::run;
 use runs::{Call, Outcome};
 use search::Answer;
 use std::mem::ManuallyDrop;
 use std::test::Fail;
+
+// Places of a ring, as many as five lock-outs have lines.
+pub const ROOM: usize = 80;
 
 // A price to begin with.
 pub const ZERO: Plain = Plain { units: 0 };
@@ -36,7 +39,7 @@ pub fn bounds(lo: i32, hi: i32) -> Result<Bounds, Fail> {
 }
 
 // Lets a ring go that has to be empty. One with tags left cannot be let go: a test that is about to fail keeps it for ever.
-pub fn close(tags: TagRing) -> Result<(), Fail> {
+pub fn close(tags: TagRing<ROOM>) -> Result<(), Fail> {
     tags.close().map_err(|left| {
         let _kept = unsafe { ManuallyDrop::new_unchecked(left) };
         Fail::new("tags are left")
@@ -57,7 +60,7 @@ pub fn run_some<N: Network, const NODES: usize>(
     }
     let mut needs = [0; NODES];
     let mut marks = [7; NODES];
-    let mut tags = TagRing::new();
+    let mut tags = TagRing::<ROOM>::new();
     let made = run(
         net, flow, &mut needs, prices, &mut marks, &mut tags, offers, calls, outcomes,
     );
@@ -65,7 +68,8 @@ pub fn run_some<N: Network, const NODES: usize>(
     Ok(made?)
 }
 
-// Runs the calls on a plan and gives what came of each; fails where one cannot be made.
+// Runs the calls on a plan and gives what came of each; fails where one cannot be made. The outcomes hold
+// before what no call of a plan that is open answers.
 pub fn run_all<N: Network, const NODES: usize, const CALLS: usize>(
     net: &mut N,
     flow: &mut [i32],
@@ -73,7 +77,7 @@ pub fn run_all<N: Network, const NODES: usize, const CALLS: usize>(
     offers: &[i32],
     calls: &[Call<N::Cost>; CALLS],
 ) -> Result<[Outcome<N::Cost>; CALLS], Fail> {
-    let mut outcomes = [Outcome::Done; CALLS];
+    let mut outcomes = [Outcome::Refused(Stop::Counts); CALLS];
     if run_some(net, flow, prices, offers, calls, &mut outcomes)? < CALLS {
         return Err(Fail::new("a call was not made"));
     }
