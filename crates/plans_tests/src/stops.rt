@@ -28,12 +28,27 @@ fn told(nodes: usize, second: Row<Plain>, flow: [i32; 2]) -> [Option<Stop>; 3] {
 fn first_stops(rt: HostRuntime) -> Result<(), Fail> {
     let fit = row(2, 1, 0, 5, 1);
     assert_eq!(rt; told(0, fit, [0, 0]), [Some(Stop::Counts); 3]);
-    assert_eq!(rt; told(2, row(2, 3, 0, 5, 1), [0, 0]), [Some(Stop::Ends(2)); 3]);
-    assert_eq!(rt; told(2, row(2, 1, 0, 5, 1_000_001), [0, 0]), [Some(Stop::Cost(2)); 3]);
+    assert_eq!(rt;
+        told(2, row(2, 3, 0, 5, 1), [0, 0]),
+        [Some(Stop::Ends(2)); 3]
+    );
+    assert_eq!(rt;
+        told(2, row(2, 1, 0, 5, 1_000_001), [0, 0]),
+        [Some(Stop::Cost(2)); 3]
+    );
     assert_eq!(rt; told(2, fit, [0, LARGE]), [Some(Stop::Flow(2)); 3]);
-    assert_eq!(rt; told(2, row(2, 1, 5, 4, 1), [0, 0]), [Some(Stop::Bounds(2)); 3]);
+    assert_eq!(rt;
+        told(2, row(2, 1, 5, 4, 1), [0, 0]),
+        [Some(Stop::Bounds(2)); 3]
+    );
     // Of two faults the first: the flow of arc 1 before the ends of arc 2, and in one arc the bounds before the flow.
-    assert_eq!(rt; told(2, row(2, 3, 0, 5, 1), [LARGE, 0]), [Some(Stop::Flow(1)); 3]);
-    assert_eq!(rt; told(2, row(2, 1, 5, 4, 1), [0, LARGE]), [Some(Stop::Bounds(2)); 3]);
+    assert_eq!(rt;
+        told(2, row(2, 3, 0, 5, 1), [LARGE, 0]),
+        [Some(Stop::Flow(1)); 3]
+    );
+    assert_eq!(rt;
+        told(2, row(2, 1, 5, 4, 1), [0, LARGE]),
+        [Some(Stop::Bounds(2)); 3]
+    );
     Ok(())
 }
