@@ -11,4 +11,6 @@ mod refused;
 #[cfg(test)]
 mod stops;
 #[cfg(test)]
+mod tags;
+#[cfg(test)]
 mod triangles;
