@@ -1,7 +1,7 @@
 // A chain of two hours.
 
 use crate::{HourChain, HourRow, check_chain, new_chain};
-use costs::Plain;
+use costs::{Plain, TwoTier};
 use networks::{Arc, Bounds, Network, Stop};
 use std::test::Fail;
 
@@ -35,5 +35,29 @@ fn chain_of_two_hours(rt: HostRuntime) -> Result<(), Fail> {
     assert_eq!(rt; chain.recost(10, Plain { units: 5 }), Ok(()));
     let amended = Arc::free(2, 1, 1, 4, Plain { units: 5 });
     assert_eq!(rt; chain.arc(10), Some(amended));
+    Ok(())
+}
+
+#[test]
+fn chain_at_two_tier_costs(rt: HostRuntime) -> Result<(), Fail> {
+    let cost = TwoTier {
+        first: 2,
+        second: -7,
+    };
+    let row = HourRow { lo: 0, hi: 8, cost };
+    let mut rows = [row; 5];
+    let mut chain = new_chain(1, &mut rows);
+    assert_eq!(rt; chain.arc(4), Some(Arc::free(1, 2, 0, 8, cost)));
+    let dear = TwoTier {
+        first: 1_000_001,
+        second: 0,
+    };
+    assert_eq!(rt; chain.recost(4, dear), Err(Stop::Cost(4)));
+    let other = TwoTier {
+        first: 0,
+        second: 1,
+    };
+    assert_eq!(rt; chain.recost(4, other), Ok(()));
+    assert_eq!(rt; chain.arc(4), Some(Arc::free(1, 2, 0, 8, other)));
     Ok(())
 }

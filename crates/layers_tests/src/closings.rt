@@ -1,6 +1,6 @@
 // A closing over one arc, with a supply at its start and a demand at its end.
 
-use costs::Plain;
+use costs::{Plain, TwoTier};
 use layers::{Closing, Draft};
 use makes::{ArcTable, Row};
 use networks::{Arc, Bounds, Lockout, Network, Stop, try_out};
@@ -117,5 +117,53 @@ fn closing_in_a_pile(rt: HostRuntime) -> Result<(), Fail> {
     assert_eq!(rt; try_out(&mut pile, 2, 2), Ok(()));
     assert_eq!(rt; try_out(&mut pile, 2, 3), Ok(()));
     assert_eq!(rt; try_out(&mut pile, 2, 4), Err(Stop::Absent(4)));
+    Ok(())
+}
+
+#[test]
+fn closing_at_two_tier_costs(rt: HostRuntime) -> Result<(), Fail> {
+    let (near, far) = (
+        TwoTier {
+            first: 0,
+            second: 4,
+        },
+        TwoTier {
+            first: 1,
+            second: -2,
+        },
+    );
+    let mut rows = [Row::new(1, 2, 0, 5, near)];
+    let b = Bounds::new(0, 9)?;
+    let mut draft = Draft::new(ArcTable::new(2, 1, &mut rows), b, far);
+    assert_eq!(rt; draft.supply(1, b), Ok(()));
+    let mut net = draft.close();
+    let zero = TwoTier {
+        first: 0,
+        second: 0,
+    };
+    let supply = Arc {
+        fixed: true,
+        ..Arc::free(4, 1, 0, 9, zero)
+    };
+    assert_eq!(rt; net.arc(2), Some(supply));
+    assert_eq!(rt; net.arc(3), Some(Arc::free(3, 4, 0, 9, far)));
+    assert_eq!(rt; net.recost(2, near), Err(Stop::Fixed(2)));
+    assert_eq!(rt; net.recost(3, near), Ok(()));
+    assert_eq!(rt; net.arc(3), Some(Arc::free(3, 4, 0, 9, near)));
+    assert_eq!(rt; net.arc(1), Some(Arc::free(1, 2, 0, 5, near)));
+    Ok(())
+}
+
+#[test]
+fn lockout_over_an_unfit_network(rt: HostRuntime) -> Result<(), Fail> {
+    let mut rows = [row()];
+    let table = ArcTable::new(300, 1, &mut rows);
+    assert_eq!(rt; Lockout::check(&table), Err(Stop::Counts));
+    let mut net = Lockout::new(table);
+    assert_eq!(rt; (net.nodes(), net.arcs(), net.lockouts()), (0, 0, 0));
+    assert_eq!(rt; net.arc(1), None);
+    assert_eq!(rt; net.rebound(1, Bounds::new(0, 1)?), Err(Stop::Absent(1)));
+    assert_eq!(rt; try_out(&mut net, 1, 1), Err(Stop::Absent(1)));
+    assert_eq!(rt; Lockout::check(&ArcTable::new(2, 1, &mut [row()])), Ok(()));
     Ok(())
 }
