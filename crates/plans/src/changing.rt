@@ -11,14 +11,16 @@ use networks::{Bounds, Network, Stop, Tag};
 
 // Replaces the bounds of an arc.
 pub fn rebound<N: Network>(net: &mut N, arc: usize, bounds: Bounds) -> Result<(), Stop>
-    ensures { KeepsTables N.Cost.CostKind.kind (N.meaning net.old) (event (rebound_call arc bounds.lo bounds.hi) (done_came result)) (N.meaning net.new) }
+    ensures keeps { KeepsTables N.Cost.CostKind.kind (N.meaning net.old) (event (rebound_call arc bounds.lo bounds.hi) (done_came result)) (N.meaning net.new) }
+    ensures same_references { N.references net.new ≡ N.references net.old }
 {
     net.rebound(arc, bounds)
 }
 
 // Replaces the cost of an arc.
 pub fn recost<N: Network>(net: &mut N, arc: usize, cost: N::Cost) -> Result<(), Stop>
-    ensures { KeepsTables N.Cost.CostKind.kind (N.meaning net.old) (event (recost_call arc cost) (done_came result)) (N.meaning net.new) }
+    ensures keeps { KeepsTables N.Cost.CostKind.kind (N.meaning net.old) (event (recost_call arc cost) (done_came result)) (N.meaning net.new) }
+    ensures same_references { N.references net.new ≡ N.references net.old }
 {
     net.recost(arc, cost)
 }
@@ -27,6 +29,7 @@ pub fn recost<N: Network>(net: &mut N, arc: usize, cost: N::Cost) -> Result<(), 
 pub fn take_out<N: Network>(net: &mut N, layer: usize, arc: usize) -> Result<Tag, Stop>
     ensures tag { said (tagged result) ≡ answer (take_out_stop (N.meaning net.old) layer arc) arc }
     ensures keeps { KeepsTables N.Cost.CostKind.kind (N.meaning net.old) (event (take_out layer arc) (done_came result)) (N.meaning net.new) }
+    ensures same_references { N.references net.new ≡ N.references net.old }
 {
     net.take_out(layer, arc)
 }
@@ -35,6 +38,7 @@ pub fn take_out<N: Network>(net: &mut N, layer: usize, arc: usize) -> Result<Tag
 pub fn hand_back<N: Network>(net: &mut N, layer: usize, tag: Tag) -> Result<(), (Stop, Tag)>
     ensures tag { returned result ≡ answer_back (hand_back_stop (N.meaning net.old) layer tag.arc) tag }
     ensures keeps { KeepsTables N.Cost.CostKind.kind (N.meaning net.old) (event (hand_back_of layer tag.arc) (back_came result)) (N.meaning net.new) }
+    ensures same_references { N.references net.new ≡ N.references net.old }
 {
     net.hand_back(layer, tag)
 }

@@ -33,7 +33,8 @@ pub fn make<N: Network, const ROOM: usize>(
     offers: &[i32],
     call: Call<N::Cost>,
 ) -> Option<Outcome<N::Cost>>
-    ensures { Makes N.Cost.CostKind.kind (state (N.meaning net.old) flow.old needs.now prices.old marks.old) tags.old.places (asked offers.now call) result (state (N.meaning net.new) flow.new needs.now prices.new marks.new) tags.new.places }
+    ensures makes { Makes N.Cost.CostKind.kind (state (N.meaning net.old) flow.old needs.now prices.old marks.old) tags.old.places (asked offers.now call) result (state (N.meaning net.new) flow.new needs.now prices.new marks.new) tags.new.places }
+    ensures same_references { N.references net.new ≡ N.references net.old }
 {
     match call {
         Call::Settle { budget } => Some(settle(net, flow, needs, prices, marks, budget).into()),

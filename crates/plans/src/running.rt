@@ -23,7 +23,8 @@ fn make_all<N: Network, const ROOM: usize>(
     calls: &[Call<N::Cost>],
     outcomes: &mut [Outcome<N::Cost>],
 ) -> usize
-    ensures { MakesAll N.Cost.CostKind.kind (state (N.meaning net.old) flow.old needs.now prices.old marks.old) tags.old.places offers.now calls.now outcomes.old result (state (N.meaning net.new) flow.new needs.now prices.new marks.new) tags.new.places outcomes.new }
+    ensures makes { MakesAll N.Cost.CostKind.kind (state (N.meaning net.old) flow.old needs.now prices.old marks.old) tags.old.places offers.now calls.now outcomes.old result (state (N.meaning net.new) flow.new needs.now prices.new marks.new) tags.new.places outcomes.new }
+    ensures same_references { N.references net.new ≡ N.references net.old }
 {
     for (i, slot) in outcomes.iter_mut().enumerate() {
         let Some(call) = calls.get(i) else {
@@ -52,6 +53,7 @@ pub fn run<N: Network, const ROOM: usize>(
 ) -> Result<usize, Stop>
     ensures runs { Runs N.Cost.CostKind.kind (state (N.meaning net.old) flow.old needs.old prices.old marks.old) tags.old.places offers.now calls.now outcomes.old result (state (N.meaning net.new) flow.new needs.new prices.new marks.new) tags.new.places outcomes.new }
     ensures every { EveryCallMade (N.meaning net.old) tags.old.places (length calls.now) (length outcomes.old) result }
+    ensures same_references { N.references net.new ≡ N.references net.old }
 {
     open(net, flow, needs, prices, marks)?;
     Ok(make_all(

@@ -6,22 +6,22 @@ use Rattle.plans.proofs.Stepping.{ring_take_out_keeps, ring_hand_back_keeps}
 use Rattle.plans.proofs.Making.{done_is, plain_makes, ring_makes}
 use Rattle.plans.proofs.listing.make.Goals as goal
 
-pub returns-in-Rebound : goal.returns-in-Rebound
-returns-in-Rebound g c = plain_makes (ap (asked c.args.offers.now) c.in-Rebound.is) _ (ap came c.into-in-Rebound.ensures ∙ done_is c.rebound.result) refl (c.rebound.ensures _)
+pub returns-in-Rebound-clause-makes : goal.returns-in-Rebound-clause-makes
+returns-in-Rebound-clause-makes g c = plain_makes (ap (asked c.args.offers.now) c.in-Rebound.is) _ (ap came c.into-in-Rebound.ensures ∙ done_is c.rebound.result) refl (c.rebound.ensures.keeps _)
 
-pub returns-in-Recost : goal.returns-in-Recost
-returns-in-Recost g c = plain_makes (ap (asked c.args.offers.now) c.in-Recost.is) _ (ap came c.into-in-Recost.ensures ∙ done_is c.recost.result) refl (c.recost.ensures _)
+pub returns-in-Recost-clause-makes : goal.returns-in-Recost-clause-makes
+returns-in-Recost-clause-makes g c = plain_makes (ap (asked c.args.offers.now) c.in-Recost.is) _ (ap came c.into-in-Recost.ensures ∙ done_is c.recost.result) refl (c.recost.ensures.keeps _)
 
-pub returns-in-TakeOut : goal.returns-in-TakeOut
-returns-in-TakeOut g c =
+pub returns-in-TakeOut-clause-makes : goal.returns-in-TakeOut-clause-makes
+returns-in-TakeOut-clause-makes g c =
     let n = g.N.Network.meaning c.args.net.now in
     let l = c.in-TakeOut.layer in
     let a = c.in-TakeOut.arc in
     ring_makes (relocked n l (relined 0 a)) c.args.tags.now.places (take_out_stop n l a) refl (ap (asked c.args.offers.now) c.in-TakeOut.is) (has_room c.args.tags.now.places) c.take_out.result c.map.result (search (rules, done_is)) c.take_out.ensures.answers c.take_out.ensures.network c.take_out.ensures.ring (λ s e. (s, e))
     (λ x so left. ring_take_out_keeps _ g.met.N.Cost.CostKind.lawful _ _ _ _ x so left _)
 
-pub returns-in-HandBack : goal.returns-in-HandBack
-returns-in-HandBack g c =
+pub returns-in-HandBack-clause-makes : goal.returns-in-HandBack-clause-makes
+returns-in-HandBack-clause-makes g c =
     let n = g.N.Network.meaning c.args.net.now in
     let l = c.in-HandBack.layer in
     let a = c.in-HandBack.arc in
