@@ -32,7 +32,8 @@ fn ask_chain(rows: &mut [HourRow<Plain>]) -> usize
 
 // Rebounds an arc of a table.
 fn rebound_first(rows: &mut [Row<Plain>], b: Bounds) -> Result<(), Stop>
-    ensures { table_stop 2 2 (length rows.old) ≡ None → rows_net 2 2 rows.new ≡ rebounded (rows_net 2 2 rows.old) 1 b.lo b.hi }
+    ensures { table_stop 2 2 (length rows.old) ≡ None
+        → rows_net 2 2 rows.new ≡ rebounded (rows_net 2 2 rows.old) 1 b.lo b.hi }
 {
     let mut table = ArcTable::new(2, 2, rows);
     table.rebound(1, b)

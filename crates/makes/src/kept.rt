@@ -69,7 +69,9 @@ impl<S: Drop, R> Drop for Kept<'_, S, R> {
 impl<'a, R: ArcRow> Kept<'a, R::Shape, R> {
     // The network of this shape that is kept in these rows; where they are not fit for it, it shows none of them.
     pub fn over(shape: R::Shape, rows: &'a mut [R]) -> Kept<'a, R::Shape, R>
-        ensures shows { kept_net R.arc_of result ≡ unless (R.stop_of shape (length rows.old)) unfit_net (base_net (R.nodes_of shape) (arcs_from (R.arc_of shape) 1 rows.old)) }
+        ensures shows { kept_net R.arc_of result ≡ unless (R.stop_of shape (length rows.old))
+            unfit_net
+            (base_net (R.nodes_of shape) (arcs_from (R.arc_of shape) 1 rows.old)) }
         ensures keeps { result.rows.now ≡ rows.old }
         ensures same_reference { result.rows.ghost_name ≡ rows.entry.ghost_name }
     {

@@ -3,12 +3,13 @@
 // `Network` states what every make and layer owes: one meaning, and answers that are read off it. Asking
 // changes nothing; rebound, recost, take-out and hand-back change just what they name, and where they
 // refuse they change nothing. A network stays in the references that it is kept in, so that what was lent to
-// it holds in the end what it meant last; a `&mut` of a network is a network too. `Stop` is why a call refuses; `told` (specs) gives each case its number and
-// place, and it prints as those. `Bounds` exist only in order and within the limits. `Lockout` stands over
-// any network and has up to 16 of its arcs out; `Lockout::check` says beforehand why it cannot, and one made
-// all the same shows nothing. A `Tag` stands for an arc that is out and must be handed
-// back: only a lock-out makes or spends one, and a `TagRing`, which keeps tags by their numbers; the prover
-// refuses to let one go. `try_out` takes an arc out and hands it back, and its contract says that this is
+// it holds in the end what it meant last; a `&mut` of a network is a network too.
+//
+// `Stop` is why a call refuses; `told` (specs) gives each case its number and place, and it prints as those.
+// `Bounds` exist only in order and within the limits. `Lockout` stands over any network and has up to 16 of
+// its arcs out; `Lockout::check` says beforehand why it cannot, and one made all the same shows nothing. A
+// `Tag` stands for an arc that is out and must be handed back: only a lock-out makes or spends one, and a
+// `TagRing`, which keeps tags by their numbers; the prover refuses to let one go. `try_out` takes an arc out and hands it back, and its contract says that this is
 // never refused and leaves the network as it was.
 //
 // Not promised here: that the rows of a network are fit. Rows hold plain numbers, and calls on a plan

@@ -57,7 +57,8 @@ impl<N: Network> Lockout<N> {
 
     // A lock-out with nothing out; over an unfit network it shows nothing.
     pub fn new(below: N) -> Lockout<N>
-        ensures shows { lockout_net N.Network.meaning result ≡ locked_net (N.Network.meaning below) (replicate 16 0) }
+        ensures shows { lockout_net N.Network.meaning result
+            ≡ locked_net (N.Network.meaning below) (replicate 16 0) }
         ensures over { result.below ≡ below }
     {
         let fit = Self::check(&below).is_ok();
