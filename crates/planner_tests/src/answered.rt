@@ -1,17 +1,17 @@
 // Files in order: the least total and each flow, or a cut.
 
-use planner::answer;
+use planner::{Room, answer};
 use std::alloc::AllocError;
 use std::process::Abort;
 use std::test::Fail;
 
-// The planner prints this for that file.
+// The answer to that file is this text.
 pub(crate) fn prints(
     rt: &(impl AllocGlobal + Abort),
     file: &str,
     due: &str,
 ) -> Result<(), AllocError> {
-    let printed = answer(rt.alloc(), file.as_bytes())?;
+    let printed = answer(Room::ask(rt.alloc())?, file.as_bytes());
     assert_eq!(rt; printed.as_str(), due, "{}", file);
     Ok(())
 }

@@ -1,7 +1,7 @@
 // Files that are refused: number 13, then the line, the place and the cause.
 
 use crate::answered::prints;
-use planner::answer;
+use planner::{Room, answer};
 use std::test::Fail;
 
 // A header of one arc, and one of that many tiers.
@@ -60,9 +60,9 @@ fn costs_of_other_tiers(rt: HostRuntime) -> Result<(), Fail> {
 // A byte too many is told before all else.
 #[test]
 fn long_files(rt: HostRuntime) -> Result<(), Fail> {
-    let printed = answer(rt.alloc(), &[b'#'; 65_537])?;
+    let printed = answer(Room::ask(rt.alloc())?, &[b'#'; 65_537]);
     assert_eq!(rt; printed.as_str(), "(refused 13 1 1 8)\n");
-    let printed = answer(rt.alloc(), &[b'#'; 65_536])?;
+    let printed = answer(Room::ask(rt.alloc())?, &[b'#'; 65_536]);
     assert_eq!(rt; printed.as_str(), "(refused 13 1 1 1)\n");
     Ok(())
 }
