@@ -1,2 +1,3 @@
+mod Overlaid
 mod Rows
 pub mod Headed

@@ -4,3 +4,7 @@ pub mod Costs
 pub mod Arcs
 pub mod Tables
 pub mod Written
+pub mod Texts
+pub mod Sheets
+pub mod Stopping
+pub mod Pens

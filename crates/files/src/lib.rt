@@ -14,9 +14,12 @@ mod arcs;
 mod faults;
 mod header;
 mod kinds;
+mod pen;
 mod tables;
+mod writing;
 
 pub use faults::{FileFault, ReadStop};
 pub use header::Header;
 pub use kinds::FileCost;
 pub use tables::{MOST_BYTES, read_header, read_table};
+pub use writing::write_table;

@@ -29,7 +29,7 @@ pub use outside::distance;
 pub use passing::pass_stop;
 pub use pricing::{opposite, price_at, raise, reduced, sum};
 pub use steps::{Step, far_end};
-pub use stops::{first_stop, open_stop, take_up_stop};
+pub use stops::{arcs_fault, first_stop, open_stop, take_up_stop};
 pub use theorems::{
     cut_shows_none, kept_signs_ease, kilter_is_least, kilter_sum_is_limited, kilter_sum_tells,
     laps_keep_imbalances, least_stays,

@@ -43,7 +43,7 @@ fn arc_fault<C: CostKind>(nodes: usize, a: usize, arc: Arc<C>, f: i32) -> Result
 }
 
 // The first fault of the arcs in turn.
-fn arcs_fault<N: Network>(net: &N, flow: &[i32]) -> Result<(), Stop>
+pub fn arcs_fault<N: Network>(net: &N, flow: &[i32]) -> Result<(), Stop>
     ensures { refusal result ≡ arcs_stop N.Cost.CostKind.kind.size (N.meaning net.now).nodes 1 (shown (N.meaning net.now)) flow.now }
 {
     let nodes = net.nodes();
