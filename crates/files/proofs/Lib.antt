@@ -1,3 +1,5 @@
 mod Overlaid
 mod Rows
+pub mod Again
+pub mod Takes
 pub mod Headed

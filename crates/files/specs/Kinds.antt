@@ -1,5 +1,5 @@
 -- Costs as the numbers that a file writes them by.
-use Rattle.std.specs.Prelude.{◌≡◌, ℕ, ◌≤◌, cond, ℤ, pos, nat_lt}
+use Rattle.std.specs.Prelude.{◌≡◌, ℕ, ◌≤◌, max, cond, ℤ, pos, nat_lt, unsigned_abs}
 use Rattle.costs.specs.declared.Plain.{Plain}
 use Rattle.costs.specs.declared.TwoTier.{TwoTier}
 
@@ -17,6 +17,10 @@ pub record TierLaws {C : Type 0} (t : Tiers C) : Type 0 where
   pub whole : (c : C) → t.cost (t.first c) (t.second c) ≡ c
   pub first_is : (a b : ℤ) → t.first (t.cost a b) ≡ a
   pub second_is : (a b : ℤ) → t.second (t.cost a b) ≡ cond (nat_lt 1 t.count) b (pos 0)
+
+-- the size of a cost is that of its largest number
+abbrev pub Sized : {C : Type 0} → (C → ℕ) → Tiers C → Type 0
+Sized {C} size t = (c : C) → size c ≡ max (unsigned_abs (t.first c)) (unsigned_abs (t.second c))
 
 -- one number
 abbrev pub plain_tiers : Tiers Plain

@@ -2,9 +2,9 @@
 
 ghost use Rattle.std.specs.Prelude.{◌≡◌, ℕ, ◌≤◌, ℤ};
 ghost use Rattle.lines.specs.Readings.{ended};
-ghost use Rattle.files.specs.Kinds.{Tiers, TierLaws, plain_tiers, two_tiers};
+ghost use Rattle.files.specs.Kinds.{Tiers, TierLaws, Sized, plain_tiers, two_tiers};
 ghost use Rattle.files.specs.Costs.{tier_in, numbers_in};
-ghost use Rattle.files.specs.Written.{plain_written, two_tier_written};
+ghost use Rattle.files.specs.Written.{plain_written, plain_sized, two_tier_written, two_tier_sized};
 
 use costs::{CostKind, Plain, TwoTier};
 use lines::Cursor;
@@ -35,6 +35,9 @@ pub trait FileCost: CostKind {
         ensures { ended result cursor.new ≡ numbers_in numbers cursor.old };
 
     ghost written: { TierLaws numbers };
+
+    // Its size is that of its largest number.
+    ghost sized: { Sized Self.CostKind.kind.size numbers };
 }
 
 // A number of a cost.
@@ -49,6 +52,8 @@ impl FileCost for Plain {
     ghost numbers = { plain_tiers };
 
     ghost written = { plain_written };
+
+    ghost sized = { plain_sized };
 
     fn tiers() -> usize {
         1
@@ -76,6 +81,8 @@ impl FileCost for TwoTier {
     ghost numbers = { two_tiers };
 
     ghost written = { two_tier_written };
+
+    ghost sized = { two_tier_sized };
 
     fn tiers() -> usize {
         2

@@ -1,1 +1,3 @@
+pub mod Fronts
+pub mod Numerals
 mod Tens
