@@ -1,10 +1,9 @@
 -- What is spelled so is read: lines, and a whole file.
-use Rattle.std.proofs.Common.{◌≡◌, ℕ, zero, suc, ◌+◌, ◌<◌, ◌≤◌, min, max, Bool, true, false, cond, ◌&&◌, eqb, ltb, leb, List, [], ◌∷◌, ◌++◌, length, map, take, drop, replicate, ℤ, pos, negsuc, nat_abs, Some, None, Ok, Err, Result, Option, sym, refl, ap, ap₂, ◌∙◌, subst, append_assoc, arith, rules}
-use Rattle.std.specs.Prelude.{codes, int_le, unsigned_abs, nat_lt}
+use Rattle.std.proofs.Common.{◌≡◌, ℕ, suc, ◌≤◌, Bool, true, false, cond, ◌&&◌, leb, List, [], ◌∷◌, ◌++◌, length, map, ℤ, pos, negsuc, Some, None, Ok, Option, sym, refl, ap, ◌∙◌, subst, append_assoc, arith}
+use Rattle.std.specs.Prelude.{codes, int_le, nat_lt}
 use Rattle.std.specs.Fmt.{decimal, signed_decimal}
 use Rattle.std.specs.Char.{is_ascii_digit}
 use Rattle.std.specs.List.{flat_map, prefix_len}
-use Rattle.std.proofs.lemmas.Bool.{le-leb}
 use Rattle.std.proofs.lemmas.Bool.Decides.{nat_tests}
 use Rattle.std.proofs.lemmas.List.Concat.{flat_map-cons}
 use Rattle.networks.specs.Limits.{most_nodes, most_arcs, cost_limit, bounds_fit}
@@ -21,7 +20,7 @@ use Rattle.files.specs.Kinds.{Tiers, TierLaws, Sized}
 use Rattle.files.specs.Costs.{tier_in, second_in, numbers_in, cost_in}
 use Rattle.files.specs.Arcs.{ends_in, arc_in}
 use Rattle.files.specs.Tables.{Counts, header_in, rows_in}
-use Rattle.files.specs.Texts.{header_text, second_text, cost_text, arc_text}
+use Rattle.files.specs.Texts.{header_text, cost_text, arc_text}
 use Rattle.files.specs.Stopping.{no_flow}
 use Rattle.files.proofs.Takes.{Small, Among, Fits, Counted, line_more, header_more, one, two, pair_text}
 

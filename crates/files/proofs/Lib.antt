@@ -1,4 +1,5 @@
 mod Overlaid
+pub mod Laws
 mod Rows
 pub mod Again
 pub mod Takes

@@ -1,25 +1,24 @@
 -- What is read was spelled so: lines, and a whole file.
-use Rattle.std.proofs.Common.{◌≡◌, ℕ, zero, suc, ◌+◌, ◌<◌, ◌≤◌, min, max, Bool, true, false, cond, ◌&&◌, eqb, ltb, leb, List, [], ◌∷◌, ◌++◌, length, map, take, drop, replicate, ℤ, pos, negsuc, nat_abs, Some, None, Ok, Err, Result, Option, sym, refl, ap, ap₂, ◌∙◌, subst, append_assoc, arith, rules}
+use Rattle.std.proofs.Common.{◌≡◌, ℕ, zero, suc, ◌≤◌, Bool, true, false, cond, ◌&&◌, leb, List, [], ◌∷◌, ◌++◌, length, map, ℤ, pos, negsuc, Some, None, Ok, Option, sym, refl, ap, ap₂, ◌∙◌, subst, append_assoc, arith}
 use Rattle.std.specs.Prelude.{codes, int_le, unsigned_abs, nat_lt}
 use Rattle.std.specs.Fmt.{decimal, signed_decimal}
 use Rattle.std.specs.List.{flat_map}
 use Rattle.std.proofs.lemmas.Bool.{le-leb}
 use Rattle.std.proofs.lemmas.Bool.Decides.{nat_tests}
 use Rattle.std.proofs.lemmas.List.Concat.{flat_map-cons}
-use Rattle.networks.specs.declared.network.Arc.{Arc}
-use Rattle.networks.specs.Limits.{most_nodes, most_arcs, cost_limit, bounds_fit, counts_fit, in_limits}
+use Rattle.networks.specs.Limits.{most_nodes, most_arcs, cost_limit, bounds_fit}
 use Rattle.networks.specs.Answers.{Told}
 use Rattle.flows.specs.Stops.{or_else, ends_fit, arc_stop, arcs_stop}
 use Rattle.makes.specs.declared.table.Row.{Row}
 use Rattle.makes.specs.Tables.{row_arc}
-use Rattle.lines.specs.Readings.{Reading, Outcome, then}
+use Rattle.lines.specs.Readings.{Reading, then}
 use Rattle.lines.specs.Lines.{expects, starts, finishes, count_in, bounds_in}
 use Rattle.lines.proofs.Takes.{then_ok, expects_takes, starts_takes, finishes_takes, within_takes, count_takes, bounds_takes}
 use Rattle.files.specs.Kinds.{Tiers, TierLaws, Sized}
 use Rattle.files.specs.Costs.{tier_in, second_in, numbers_in, cost_in}
 use Rattle.files.specs.Arcs.{ends_in, arc_in}
 use Rattle.files.specs.Tables.{Counts, header_in, rows_in}
-use Rattle.files.specs.Texts.{header_text, second_text, cost_text, arc_text}
+use Rattle.files.specs.Texts.{header_text, cost_text, arc_text}
 use Rattle.files.specs.Stopping.{no_flow}
 
 -- a number of a cost is within the limit

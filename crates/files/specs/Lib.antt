@@ -8,3 +8,4 @@ pub mod Texts
 pub mod Sheets
 pub mod Stopping
 pub mod Pens
+pub mod Spelling

@@ -1,8 +1,13 @@
 // Reading a network file: the counts of its first line, and its arcs into lent rows.
 
-ghost use Rattle.std.specs.Prelude.{◌≡◌, ℕ, ◌≤◌, length, IfOk};
+ghost use Rattle.std.specs.Prelude.{◌≡◌, ℕ, ◌≤◌, List, ◌++◌, length, take, drop, IfOk, Ok, None};
+ghost use Rattle.flows.specs.Stops.{open_stop};
+ghost use Rattle.makes.specs.declared.table.Row.{Row};
+ghost use Rattle.makes.specs.Tables.{rows_net};
 ghost use Rattle.lines.specs.Readings.{ended};
-ghost use Rattle.files.specs.Tables.{counts, header_in, shown_header, in_file, counts_of, rows_in, passed, shown_rows, body_in, granted, table_in, header_of, rows_after};
+ghost use Rattle.files.specs.Stopping.{no_flow};
+ghost use Rattle.files.specs.Spelling.{Spells};
+ghost use Rattle.files.specs.Tables.{Counts, counts, header_in, shown_header, in_file, counts_of, rows_in, passed, shown_rows, body_in, granted, table_in, header_of, rows_after};
 
 use crate::arcs::read_arc;
 use crate::faults::{FileFault, ReadStop};
@@ -78,7 +83,7 @@ fn read_rows<C: FileCost>(
 
 // Reads a whole file into the first of the lent rows. All lines are looked at before a row is
 // written, so that where it refuses the rows are as they were.
-pub fn read_table<C: FileCost>(text: &[u8], rows: &mut [Row<C>]) -> Result<Header, ReadStop>
+fn read_file<C: FileCost>(text: &[u8], rows: &mut [Row<C>]) -> Result<Header, ReadStop>
     ensures within { IfOk result (λ h. h.arcs ≤ length rows.old) }
     ensures is { shown_header result ≡ header_of (table_in C.FileCost.numbers (length rows.old) text.now) }
     ensures leaves { rows.new ≡ rows_after rows.old (table_in C.FileCost.numbers (length rows.old) text.now) }
@@ -92,4 +97,21 @@ pub fn read_table<C: FileCost>(text: &[u8], rows: &mut [Row<C>]) -> Result<Heade
     check_body::<C>(cursor.again(), header)?;
     read_rows(&mut cursor, header, &mut rows[..header.arcs])?;
     Ok(header)
+}
+
+/// Reads a network file into the first of the lent rows: what is read was spelled so, what is spelled so is read, and a
+/// table of what was read opens at no flow. Where it refuses the rows are as they were.
+pub fn read_table<C: FileCost>(text: &[u8], rows: &mut [Row<C>]) -> Result<Header, ReadStop>
+    ensures within { IfOk result (λ h. h.arcs ≤ length rows.old) }
+    ensures is { shown_header result ≡ header_of (table_in C.FileCost.numbers (length rows.old) text.now) }
+    ensures leaves { rows.new ≡ rows_after rows.old (table_in C.FileCost.numbers (length rows.old) text.now) }
+    ensures spelled { IfOk result (λ h.
+        Spells C.CostKind.kind.size C.FileCost.numbers (counts h) (take h.arcs rows.new) text.now) }
+    ensures again { (h : Counts) (xs : List (Row C)) → h.arcs ≤ length rows.old
+        → Spells C.CostKind.kind.size C.FileCost.numbers h xs text.now
+        → (shown_header result ≡ Ok h) × (rows.new ≡ xs ++ drop h.arcs rows.old) }
+    ensures opens { IfOk result (λ h. open_stop C.CostKind.kind.size
+        (rows_net h.nodes h.arcs (take h.arcs rows.new)) (no_flow h.arcs) h.nodes h.nodes h.nodes ≡ None) }
+{
+    read_file(text, rows)
 }

@@ -1,11 +1,12 @@
 // Writing a network file: the text of an arc table into lent bytes.
 
-ghost use Rattle.std.specs.Prelude.{◌≡◌, ℕ, min, length};
+ghost use Rattle.std.specs.Prelude.{◌≡◌, ℕ, ◌≤◌, min, length, take, IfOk, Ok};
 ghost use Rattle.std.specs.List.{flat_map};
 ghost use Rattle.networks.specs.Limits.{most_counted};
 ghost use Rattle.networks.specs.Answers.{refusal, said, answer, unless};
 ghost use Rattle.makes.specs.Tables.{table_net};
-ghost use Rattle.files.specs.Texts.{header_text, cost_text, arc_text, row_of, net_rows, net_text};
+ghost use Rattle.files.specs.Tables.{table_in};
+ghost use Rattle.files.specs.Texts.{header_text, cost_text, arc_text, row_of, net_counts, net_rows, net_text};
 ghost use Rattle.files.specs.Sheets.{over, written, inked};
 ghost use Rattle.files.specs.Pens.{sheet};
 ghost use Rattle.files.specs.Stopping.{unfit_stop, write_stop};
@@ -89,13 +90,16 @@ fn check_fit<C: FileCost>(table: &ArcTable<C>) -> Result<(), Stop>
     arcs_fault(table, &[0; MOST_ARCS][..table.arcs()])
 }
 
-// Writes a table as a network file into the first of the lent bytes, and answers how many it takes.
-// The text is counted before a byte is written, so that where it refuses the bytes are as they were.
+/// Writes a table as a network file into the first of the lent bytes, and answers how many it takes: read again,
+/// they give just its rows. All is counted before a byte is written, so that where it refuses the bytes are as they
+/// were.
 pub fn write_table<C: FileCost>(table: &ArcTable<C>, out: &mut [u8]) -> Result<usize, Stop>
     ensures answers { said result ≡ answer (write_stop C.CostKind.kind.size C.FileCost.numbers (table_net table.now) (length out.old))
         (length (net_text C.FileCost.numbers (table_net table.now))) }
     ensures leaves { out.new ≡ unless (write_stop C.CostKind.kind.size C.FileCost.numbers (table_net table.now) (length out.old))
         out.old (written (net_text C.FileCost.numbers (table_net table.now)) out.old) }
+    ensures back { IfOk result (λ n. (room : ℕ) → length (table_net table.now).arcs ≤ room
+        → table_in C.FileCost.numbers room (take n out.new) ≡ Ok (net_counts C.FileCost.numbers (table_net table.now), net_rows (table_net table.now))) }
 {
     check_fit(table)?;
     if write_text(table, &mut []) > out.len() {
