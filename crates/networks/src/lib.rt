@@ -8,9 +8,10 @@
 // `Stop` is why a call refuses; `told` (specs) gives each case its number and place, and it prints as those.
 // `Bounds` exist only in order and within the limits. `Lockout` stands over any network and has up to 16 of
 // its arcs out; `Lockout::check` says beforehand why it cannot, and one made all the same shows nothing. A
-// `Tag` stands for an arc that is out and must be handed back: only a lock-out makes or spends one, and a
-// `TagRing`, which keeps tags by their numbers; the prover refuses to let one go. `try_out` takes an arc out and hands it back, and its contract says that this is
-// never refused and leaves the network as it was.
+// `Tag` stands for an arc that is out and must be handed back: only a lock-out makes or spends one, a `TagRing`
+// keeps tags and gives them out by the numbers of their arcs, and the prover refuses to let one go. `try_out`
+// takes an arc out and hands it back, and its contract says that this is never refused and leaves the network
+// as it was.
 //
 // Not promised here: that the rows of a network are fit. Rows hold plain numbers, and calls on a plan
 // look at them first; `check_counts` is the test of counts that they share with makes and layers. Nor that
