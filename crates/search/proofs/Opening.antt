@@ -35,14 +35,14 @@ module _ {C : Type 0} (K : Kind C) (laws : Laws K) (n : Net C) (flow needs : Lis
       let t = p.fits i a is in
       (t.low, t.high, subst (λ z. nat_abs z ≤ flow_limit) (sym (fs.1 ∙ get_or_default flow i f (pos 0) fs.0)) (p.small_flow i)))
 
-  pub going_start : (ps qs : List C) (limit : ℕ) → length ps ≡ n.nodes → length qs ≡ length ps → limit ≡ (length ps - 1) * largest K (shown n) →
+  pub going_start : (ps qs : List C) (limit : ℕ) → length ps ≡ n.nodes → length qs ≡ length ps → limit ≤ 255000000 →
       ((k : ℕ) → k < length qs → get_or qs k K.zero ≡ read_price_as K limit (get_or ps k K.zero)) → Going K n.nodes (shown n) flow 0 0 flow qs
   going_start ps qs limit l m e read = record {
     ready = record {
       fitting = p.fits;
       few = p.few_nodes;
       priced = m ∙ l;
-      bounded = λ k h. let b = subst (λ z. K.size z ≤ limit) (sym (read k h)) (read_small limit (get_or ps k K.zero)) in omega (arith, b, some_limit (length ps) l);
+      bounded = λ k h. let b = subst (λ z. K.size z ≤ limit) (sym (read k h)) (read_small limit (get_or ps k K.zero)) in omega (arith, b, e);
       long = p.flow_long ∙ sym (length_shown n);
       small = p.small_flow;
     };

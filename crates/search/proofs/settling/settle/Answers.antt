@@ -33,8 +33,10 @@ search-answer-requires g c =
     let n = g.N.Network.meaning c.args.net.now in
     let ps = c.args.prices.now in
     let p = no_stop K n c.args.flow.now c.args.needs.now (length ps) (length c.args.marks.now) (sym c.first_stop.ensures ∙ ap refusal c.in_ok-first_stop.was) in
+    let l = some_limit K g.met.N.Cost.CostKind.lawful n c.args.flow.now c.args.needs.now (length ps) (length c.args.marks.now) p (length ps) p.prices_long in
+    let e = ap (λ z. (length ps - 1) * z) c.largest_cost.ensures in
     record {
-      going = going_start K g.met.N.Cost.CostKind.lawful n c.args.flow.now c.args.needs.now (length ps) (length c.args.marks.now) p ps c.read_prices.new.prices _ p.prices_long c.read_prices.auto.prices (ap (λ z. (length ps - 1) * z) c.largest_cost.ensures) (read_at K _ ps c.read_prices.new.prices c.read_prices.ensures);
+      going = going_start K g.met.N.Cost.CostKind.lawful n c.args.flow.now c.args.needs.now (length ps) (length c.args.marks.now) p ps c.read_prices.new.prices _ p.prices_long c.read_prices.auto.prices (omega (arith, l, e)) (read_at K _ ps c.read_prices.new.prices c.read_prices.ensures);
       few = omega (arith, p.flow_long, p.few_arcs);
       marks = c.clear.auto.marks ∙ p.marks_long;
     }
