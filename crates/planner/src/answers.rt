@@ -37,7 +37,8 @@ fn write_settled<C: FileCost>(
     requires marks { marks.old ≡ replicate header.nodes 0 }
     requires one { length calls.old ≡ 1 }
     requires room { length outcomes.old ≡ 1 }
-    ensures { TableText C.CostKind.kind C.FileCost.numbers (table_in C.FileCost.numbers header.arcs text.now) (string_bytes out.new) }
+    ensures { TableText C.CostKind.kind C.FileCost.numbers
+        (table_in C.FileCost.numbers header.arcs text.now) (string_bytes out.new) }
 {
     let settled = settle_file(text, rows, flow, needs, prices, marks, calls, outcomes);
     write_answer(out, settled, flow, marks);
@@ -48,7 +49,8 @@ fn write_plan<C: FileCost>(out: &mut String, text: &[u8], header: Header, tables
     requires first { counts_of text.now ≡ Ok (counts header) }
     requires empty { string_bytes out.old ≡ [] }
     requires sheet { string_len out.old + text_room ≤ string_capacity out.old }
-    ensures { TableText C.CostKind.kind C.FileCost.numbers (table_in C.FileCost.numbers header.arcs text.now) (string_bytes out.new) }
+    ensures { TableText C.CostKind.kind C.FileCost.numbers
+        (table_in C.FileCost.numbers header.arcs text.now) (string_bytes out.new) }
 {
     let Tables {
         mut rows,

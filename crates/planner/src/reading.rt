@@ -70,7 +70,8 @@ pub fn answer_through<R: Read, W: Write>(
     writer: &mut W,
 ) -> io::Result<()>
     ensures { OnOk result (IfSome (R.remaining reader.old) (λ bytes.
-        (text : List ℕ) × FileText (part_read bytes) text × Appends (W.contents writer.old) (W.contents writer.new) text)) }
+        (text : List ℕ) × FileText (part_read bytes) text
+        × Appends (W.contents writer.old) (W.contents writer.new) text)) }
 {
     let text = answer_from(room, reader)?;
     writer.write_all(text.as_bytes())

@@ -13,9 +13,8 @@ use networks::{MOST_ARCS, MOST_NODES};
 use runs::{Call, Outcome};
 use std::alloc::{AllocError, Global};
 
-// The most bytes of a flow's line, whatever its numbers: "(flow ", an arc, a blank, what it carries, ")" and a
-// line feed. Any other line has at most as many and 24 more.
-pub(crate) const LINE_ROOM: usize = 40;
+// The most bytes of a flow's line, whatever its numbers. Any other line has at most 64.
+const LINE_ROOM: usize = 40;
 
 // The most bytes of an answer: the line of the total, and one for each flow.
 const TEXT_ROOM: usize = 64 + LINE_ROOM * MOST_ARCS;

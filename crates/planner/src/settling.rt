@@ -55,7 +55,9 @@ fn make_settle<N: Network>(
 ) -> Result<Answer<N::Cost>, Stop>
     requires one { calls.now ≡ full_settle arcs }
     requires room { outcomes.old ≡ Done ∷ [] }
-    ensures { SettlesOnce N.Cost.CostKind.kind arcs (state (N.meaning net.old) flow.old needs.old prices.old marks.old) result (state (N.meaning net.new) flow.new needs.new prices.new marks.new) }
+    ensures { SettlesOnce N.Cost.CostKind.kind arcs
+        (state (N.meaning net.old) flow.old needs.old prices.old marks.old) result
+        (state (N.meaning net.new) flow.new needs.new prices.new marks.new) }
 {
     let mut tags = TagRing::<0>::new();
     run(
@@ -87,7 +89,9 @@ fn settle_once<N: Network>(
     requires few { arcs ≤ most_arcs }
     requires one { length calls.old ≡ 1 }
     requires room { length outcomes.old ≡ 1 }
-    ensures { SettlesOnce N.Cost.CostKind.kind arcs (state (N.meaning net.old) flow.old needs.old prices.old marks.old) result (state (N.meaning net.new) flow.new needs.new prices.new marks.new) }
+    ensures { SettlesOnce N.Cost.CostKind.kind arcs
+        (state (N.meaning net.old) flow.old needs.old prices.old marks.old) result
+        (state (N.meaning net.new) flow.new needs.new prices.new marks.new) }
 {
     let budget = full_budget(arcs);
     fill(calls, Call::Settle { budget });
@@ -115,7 +119,10 @@ pub fn settle_file<C: FileCost>(
 ) -> Result<Answer<C>, ReadStop>
     requires one { length calls.old ≡ 1 }
     requires room { length outcomes.old ≡ 1 }
-    ensures { SettledFile C.CostKind.kind (λ rows nodes arcs. state (rows_net nodes arcs rows) flow.old needs.old prices.old marks.old) rows.old (table_in C.FileCost.numbers (length rows.old) text.now) result flow.new marks.new }
+    ensures { SettledFile C.CostKind.kind
+        (λ rows nodes arcs. state (rows_net nodes arcs rows) flow.old needs.old prices.old marks.old)
+        rows.old (table_in C.FileCost.numbers (length rows.old) text.now)
+        result flow.new marks.new }
 {
     match read_table(text, rows) {
         Ok(header) => {
