@@ -29,7 +29,7 @@ mod tags;
 mod trying;
 
 pub use bounds::Bounds;
-pub use limits::{COST_LIMIT, MOST_ARCS, MOST_NODES, check_counts};
+pub use limits::{COST_LIMIT, MOST_ARCS, MOST_NODES, check_counts, cost_fits};
 pub use lockout::Lockout;
 pub use network::{Arc, Network};
 pub use ring::TagRing;

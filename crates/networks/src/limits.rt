@@ -1,7 +1,7 @@
 // The limits of networks.
 
-ghost use Rattle.std.specs.Prelude.{◌≡◌, ℕ, if◌then◌else◌, Some, None};
-ghost use Rattle.networks.specs.Limits.{counts_fit};
+ghost use Rattle.std.specs.Prelude.{◌≡◌, ℕ, if◌then◌else◌, Some, None, nat_le};
+ghost use Rattle.networks.specs.Limits.{counts_fit, cost_limit};
 ghost use Rattle.networks.specs.Answers.{refusal};
 
 use crate::Stop;
@@ -14,12 +14,12 @@ pub const MOST_ARCS: usize = 1024;
 // The largest size of an arc's cost.
 pub const COST_LIMIT: u64 = 1_000_000;
 
-// The same numbers stand in the definitions of limits.
-const _: () = prove!(MOST_NODES == 256);
-
-const _: () = prove!(MOST_ARCS == 1_024);
-
-const _: () = prove!(COST_LIMIT == 1_000_000);
+// Whether a cost of that size is within the limit.
+pub fn cost_fits(size: u64) -> bool
+    ensures { result ≡ nat_le size cost_limit }
+{
+    size <= COST_LIMIT
+}
 
 // Refuses a count of nodes that is 0, and one of nodes or arcs beyond the limits.
 pub fn check_counts(nodes: usize, arcs: usize) -> Result<(), Stop>
