@@ -1,0 +1,41 @@
+//! Random numbers, the same in every run.
+
+use rand::RngExt;
+use rand_core::SeedableRng;
+use rand_xoshiro::Xoshiro256PlusPlus;
+
+#[derive(Drop)]
+pub struct Dice {
+    rng: Xoshiro256PlusPlus,
+}
+
+impl Dice {
+    pub fn new(seed: u64) -> Dice {
+        Dice {
+            rng: Xoshiro256PlusPlus::seed_from_u64(seed),
+        }
+    }
+
+    /// A number from `low` to `high`, or `low` where they are out of order.
+    pub fn between(&mut self, low: i32, high: i32) -> i32 {
+        if low >= high {
+            return low;
+        }
+        self.rng.random_range(low..=high)
+    }
+
+    /// A number from 0 to `most`.
+    pub fn up_to(&mut self, most: usize) -> usize {
+        self.rng.random_range(0..=most)
+    }
+
+    /// Yes, once in so many times.
+    pub fn once_in(&mut self, times: usize) -> bool {
+        self.up_to(times.saturating_sub(1)) == 0
+    }
+
+    /// Any price.
+    pub fn wild(&mut self) -> i64 {
+        self.rng.random_range(i64::MIN..=i64::MAX)
+    }
+}
