@@ -22,7 +22,7 @@ use Rattle.networks.specs.declared.stops.Stop.TheVariants.{Lengths}
 use Rattle.files.specs.Kinds.{Tiers, TierLaws, Sized}
 use Rattle.files.specs.Tables.{Counts, header_in, rows_in, kept, body_in, in_read, with_counts, roomed, table_in}
 use Rattle.files.specs.Texts.{header_text, arc_text, table_text, net_counts, row_of, net_rows, net_text}
-use Rattle.files.specs.Stopping.{no_flow, unfit_stop}
+use Rattle.files.specs.Stopping.{no_flow, unfit_stop, write_stop}
 use Rattle.files.specs.Spelling.{Orderly, Spells}
 use Rattle.files.proofs.Takes.{Counted, rows_takes, header_takes}
 use Rattle.files.proofs.Again.{rows_reads, header_reads}
@@ -166,3 +166,11 @@ module _ {C : Type 0} (size : C → ℕ) (t : Tiers C) (laws : TierLaws t) (size
       ap (roomed t room) first.1
       ∙ ap (λ b. cond b (with_counts h (in_read (kept (rows_in t h.nodes h.arcs (at first.0 body))))) (Err (stops.Stop Lengths))) (le-leb h.arcs room l)
       ∙ ap (λ w. with_counts h (in_read (kept w))) read
+
+-- the table of rows that were read is written as the text that they were read of
+pub text_again : {C : Type 0} (size : C → ℕ) (t : Tiers C) (h : Counts) (rows : List (Row C)) (text : List ℕ) (n : Net C) (room : ℕ) → Spells size t h rows text → n ≡ rows_net h.nodes h.arcs rows → room ≡ length text
+    → (net_text t n ≡ text) × (write_stop size t n room ≡ None)
+text_again size t h rows text n room s e l =
+    let is : net_text t n ≡ text = ap (net_text t) e ∙ text_of_table size h rows t s.orderly ∙ sym s.text_is in
+    let fits : leb (length (net_text t n)) room ≡ true = le-leb (length (net_text t n)) room (let i = ap length is in omega arith) in
+    (is, ap₂ or_else (ap (unfit_stop size) e ∙ s.orderly.unstopped) (ap (λ b. cond b None (Some (2, 0))) fits))

@@ -32,6 +32,10 @@ abbrev pub refusal_text : ReadStop → List ℕ
 refusal_text (read.Fault e) = codes "13 " ++ fault_text e
 refusal_text (read.Stop s) = stop_text s
 
+-- the line that a program prints of a refusal
+abbrev pub refusal_line : ReadStop → List ℕ
+refusal_line s = codes "(refused " ++ refusal_text s ++ codes ")\n"
+
 -- the stop that a cause carries
 abbrev pub stop_of : Cause → Option Stop
 stop_of Byte = None

@@ -9,3 +9,4 @@ pub mod Sheets
 pub mod Stopping
 pub mod Pens
 pub mod Spelling
+pub mod Checks

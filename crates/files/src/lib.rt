@@ -8,9 +8,13 @@
 // ends in a line feed. `read_header` answers the counts, and `read_table` reads the arcs into lent rows.
 // Both equal their rule (specs), faults and places included; where reading stops, the rows are as they
 // were. A fault tells the line, the byte in it, and the cause; faults are found in reading order.
+// `write_table` writes a table into lent bytes. The text of counts and rows is spelled in specs/Texts: what
+// is read was spelled so, what is spelled so is read, and so each undoes the other. `check` reads a file and
+// writes it back.
 #![tactic(auto)]
 
 mod arcs;
+mod checks;
 mod faults;
 mod header;
 mod kinds;
@@ -18,6 +22,7 @@ mod pen;
 mod tables;
 mod writing;
 
+pub use checks::check;
 pub use faults::{FileFault, ReadStop};
 pub use header::Header;
 pub use kinds::FileCost;

@@ -5,7 +5,7 @@ use Rattle.networks.specs.Limits.{most_arcs}
 use Rattle.search.specs.declared.settling.Answer.{Answer}
 use Rattle.search.specs.declared.settling.Answer.TheVariants.{Least, Paused, None}
 use Rattle.files.specs.declared.faults.ReadStop.{ReadStop}
-use Rattle.files.specs.Faults.{refusal_text}
+pub use Rattle.files.specs.Faults.{refusal_line}
 use Rattle.files.specs.Kinds.{Tiers}
 
 -- the most bytes of an answer: 40 for each flow's line, and 64 for one line more
@@ -41,10 +41,6 @@ least_line total = codes "(least " ++ total ++ codes ")\n"
 -- a pause after so many laps
 abbrev pub paused_line : ℕ → List ℕ
 paused_line laps = codes "(paused " ++ decimal laps ++ codes ")\n"
-
--- a refusal
-abbrev pub refusal_line : ReadStop → List ℕ
-refusal_line s = codes "(refused " ++ refusal_text s ++ codes ")\n"
 
 -- the whole text, where a cost is written so
 abbrev pub answer_text : {C : Type 0} → (C → List ℕ) → Result (Answer C) ReadStop → List ℤ → List ℕ → List ℕ
