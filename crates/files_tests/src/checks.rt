@@ -65,7 +65,7 @@ fn room(rt: HostRuntime) {
     assert_eq!(rt; write_table(&table, &mut out[..80]), Err(Stop::Lengths));
     assert_eq!(rt; out, [b'#'; 82]);
     assert_eq!(rt; write_table(&table, &mut out), Ok(81));
-    assert_eq!(rt; &out[..81], text.as_bytes());
+    assert_eq!(rt; out.starts_with(text.as_bytes()), true);
     assert_eq!(rt; out[81], b'#');
 }
 
