@@ -45,8 +45,8 @@ fn told(rt: &HostRuntime, all: &mut Tally, name: &str, tally: Tally) -> Result<(
 // Tables written, read back and damaged.
 fn copied(rt: &HostRuntime, dice: &mut Dice, many: usize, all: &mut Tally) -> Result<(), Fail> {
     let mut copies = Copies::default();
-    texts::copies::<Plain>(rt, dice, many.saturating_mul(300), &mut copies)?;
-    texts::copies::<TwoTier>(rt, dice, many.saturating_mul(200), &mut copies)?;
+    texts::try_texts::<Plain>(rt, dice, many.saturating_mul(300), &mut copies)?;
+    texts::try_texts::<TwoTier>(rt, dice, many.saturating_mul(200), &mut copies)?;
     let Copies {
         tried,
         agreed,

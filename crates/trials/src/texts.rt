@@ -69,7 +69,7 @@ fn try_table<C: FileCost>(
 }
 
 /// So many random tables.
-pub fn copies<C: FileCost>(
+pub fn try_texts<C: FileCost>(
     rt: &HostRuntime,
     dice: &mut Dice,
     count: usize,
