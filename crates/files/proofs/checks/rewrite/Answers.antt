@@ -46,10 +46,10 @@ wrote size t h rows text old n e s l =
 
 pub returns-in_err-write_table : goal.returns-in_err-write_table
 returns-in_err-write_table g c =
-    let w = wrote g.C.CostKind.kind.size g.C.FileCost.numbers c.in_ok-nodes.field-0 _ c.args.text.now c.args.out.now _ c.new-table.ensures c.in_ok-nodes.ensures.spelled c.requires in
+    let w = wrote g.C.CostKind.kind.size g.C.FileCost.numbers c.in_ok-nodes.field-0 _ c.args.text.now c.args.out.now _ c.new-table.ensures.shows c.in_ok-nodes.ensures.spelled c.requires in
     absurd (granted _ _ _ w.0 c.in_err-write_table.ensures.answers)
 
 pub returns : goal.returns
 returns g c =
-    let w = wrote g.C.CostKind.kind.size g.C.FileCost.numbers c.in_ok-nodes.field-0 _ c.args.text.now c.args.out.now _ c.new-table.ensures c.in_ok-nodes.ensures.spelled c.requires in
+    let w = wrote g.C.CostKind.kind.size g.C.FileCost.numbers c.in_ok-nodes.field-0 _ c.args.text.now c.args.out.now _ c.new-table.ensures.shows c.in_ok-nodes.ensures.spelled c.requires in
     ap Ok (c.write_table.ensures.leaves ∙ w.1) ∙ was_read c.in_ok-nodes.field-0 c.args.text.now (table_in g.C.FileCost.numbers (length c.args.rows.now) c.args.text.now) c.in_ok-nodes.ensures.is
