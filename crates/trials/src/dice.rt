@@ -24,6 +24,11 @@ impl Dice {
         self.rng.random_range(low..=high)
     }
 
+    /// A number from `-most` to `most`.
+    pub fn around(&mut self, most: i32) -> i32 {
+        self.between(0i32.saturating_sub(most), most)
+    }
+
     /// A number from 0 to `most`.
     pub fn up_to(&mut self, most: usize) -> usize {
         self.rng.random_range(0..=most)

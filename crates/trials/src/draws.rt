@@ -39,15 +39,15 @@ impl Reach {
 /// A cost: near zero, up to the limit, or one of the limits.
 pub fn cost<C: FileCost>(dice: &mut Dice, reach: Reach) -> C {
     let most = reach.most(9);
-    let first = dice.between(-most, most);
-    let second = dice.between(-most, most);
+    let first = dice.around(most);
+    let second = dice.around(most);
     C::of_tiers(i64::from(first), i64::from(second))
 }
 
 /// A pair of bounds in order.
 pub fn bounds(dice: &mut Dice, reach: Reach) -> (i32, i32) {
     let most = reach.most(20);
-    let low = dice.between(-most, most);
+    let low = dice.around(most);
     let from = if dice.once_in(2) { low.min(0) } else { low };
     (from, dice.between(from, most))
 }
@@ -63,7 +63,7 @@ pub fn flow(
     let zero = dice.once_in(3);
     let mut flow = vec![in heap; 0i32; arcs]?;
     for carried in flow.iter_mut() {
-        *carried = if zero { 0 } else { dice.between(-most, most) };
+        *carried = if zero { 0 } else { dice.around(most) };
     }
     Ok(flow)
 }
@@ -81,7 +81,7 @@ pub fn prices<C: FileCost>(
         *price = if wild {
             C::of_tiers(dice.wild(), dice.wild())
         } else {
-            C::of_tiers(i64::from(dice.between(-most, most)), 0)
+            C::of_tiers(i64::from(dice.around(most)), 0)
         };
     }
     Ok(prices)

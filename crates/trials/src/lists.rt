@@ -243,8 +243,10 @@ fn go_on<N: Network>(
 where
     N::Cost: FileCost,
 {
+    let mut calls = Vec::new(heap);
+    calls.push(Call::Settle { budget: 5 })?;
     for _ in 0..100_000 {
-        match make(heap, net, tried, tags, &[Call::Settle { budget: 5 }])? {
+        match make(heap, net, tried, tags, &calls)? {
             Some(Answer::Paused { .. }) => tally.paused = tally.paused.saturating_add(1),
             ended => return Ok(ended),
         }

@@ -36,7 +36,7 @@ where
 // The full budget of so many arcs, or a small one.
 fn budget(dice: &mut Dice, arcs: usize) -> u32 {
     if dice.once_in(3) {
-        return dice.up_to(4) as u32;
+        return u32::try_from(dice.up_to(4)).unwrap_or(0);
     }
     let full = 2 * Bounds::LIMIT as usize;
     u32::try_from(full.saturating_mul(arcs)).unwrap_or(u32::MAX)

@@ -13,6 +13,9 @@ use std::test::Fail;
 /// As many bytes as the text of a table of these trials can have.
 const ROOM: usize = 8_000;
 
+/// What a damaged byte can become.
+const BYTES: &[u8] = b"0123456789-() acefhilnorst\nxZ";
+
 /// How many tables were tried and agreed, and how many of the damaged texts were refused.
 #[derive(Clone, Copy, Default)]
 pub struct Copies {
@@ -59,7 +62,7 @@ fn try_table<C: FileCost>(
         return Ok(false);
     }
     let place = dice.up_to(count.saturating_sub(1));
-    let byte = b"0123456789-() acefhilnorst\nxZ"[dice.up_to(27)];
+    let byte = BYTES.get(dice.up_to(27)).copied().unwrap_or(b' ');
     if let Some(slot) = text.get_mut(place) {
         *slot = byte;
     }
