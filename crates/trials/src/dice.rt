@@ -34,6 +34,11 @@ impl Dice {
         self.rng.random_range(0..=most)
     }
 
+    /// A number from 1 to `most`.
+    pub fn one_to(&mut self, most: usize) -> usize {
+        self.up_to(most.saturating_sub(1)).saturating_add(1)
+    }
+
     /// Yes, once in so many times.
     pub fn once_in(&mut self, times: usize) -> bool {
         self.up_to(times.saturating_sub(1)) == 0

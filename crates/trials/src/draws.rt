@@ -96,10 +96,9 @@ pub fn rows<C: FileCost>(
     reach: Reach,
 ) -> Result<Vec<Row<C>>, AllocError> {
     let mut rows = vec![in heap; Row::new(1, 1, 0, 0, C::zero()); arcs]?;
-    let last = nodes.saturating_sub(1);
     for row in rows.iter_mut() {
-        let from = dice.up_to(last).saturating_add(1);
-        let to = dice.up_to(last).saturating_add(1);
+        let from = dice.one_to(nodes);
+        let to = dice.one_to(nodes);
         let (lo, hi) = bounds(dice, reach);
         *row = Row::new(from, to, lo, hi, cost(dice, reach));
     }

@@ -24,7 +24,7 @@ pub const TAGS: usize = 32;
 pub fn tables<C: FileCost>(rt: &HostRuntime, dice: &mut Dice, count: usize) -> Result<Tally, Fail> {
     let mut tally = Tally::default();
     for _ in 0..count {
-        let nodes = dice.up_to(NODES - 1) + 1;
+        let nodes = dice.one_to(NODES);
         let arcs = dice.up_to(ARCS);
         let reach = Reach::any(dice);
         let mut rows = rows::<C>(rt.alloc(), dice, nodes, arcs, reach)?;
@@ -38,8 +38,8 @@ pub fn tables<C: FileCost>(rt: &HostRuntime, dice: &mut Dice, count: usize) -> R
 pub fn chains<C: FileCost>(rt: &HostRuntime, dice: &mut Dice, count: usize) -> Result<Tally, Fail> {
     let mut tally = Tally::default();
     for _ in 0..count {
-        let most = if dice.once_in(10) { 47 } else { 11 };
-        let hours = dice.up_to(most).saturating_add(1);
+        let most = if dice.once_in(10) { 48 } else { 12 };
+        let hours = dice.one_to(most);
         let mut rows = hour_rows::<C>(rt.alloc(), dice, hours)?;
         let net = new_chain(hours, &mut rows);
         try_network(rt, dice, &net, Reach::Near, &mut tally)?;
@@ -81,7 +81,7 @@ pub fn closings<C: FileCost>(
 ) -> Result<Tally, Fail> {
     let mut tally = Tally::default();
     for _ in 0..count {
-        let nodes = dice.up_to(NODES - 1) + 1;
+        let nodes = dice.one_to(NODES);
         let arcs = dice.up_to(ARCS - 8);
         let reach = Reach::any(dice);
         let mut rows = rows::<C>(rt.alloc(), dice, nodes, arcs, reach)?;
@@ -128,7 +128,7 @@ pub fn lockouts<C: FileCost>(
 ) -> Result<Tally, Fail> {
     let mut tally = Tally::default();
     for _ in 0..count {
-        let nodes = dice.up_to(NODES - 1) + 1;
+        let nodes = dice.one_to(NODES);
         let arcs = dice.up_to(ARCS);
         let reach = Reach::any(dice);
         let mut rows = rows::<C>(rt.alloc(), dice, nodes, arcs, reach)?;

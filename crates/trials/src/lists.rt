@@ -350,7 +350,7 @@ fn over_table<C: FileCost>(
     dice: &mut Dice,
     tally: &mut Tally,
 ) -> Result<(), Fail> {
-    let nodes = dice.up_to(7) + 1;
+    let nodes = dice.one_to(8);
     let arcs = dice.up_to(24);
     let mut rows = rows::<C>(rt.alloc(), dice, nodes, arcs, Reach::Near)?;
     let mut net = Lockout::new(Lockout::new(ArcTable::new(nodes, arcs, &mut rows)));
@@ -362,7 +362,7 @@ fn over_chain<C: FileCost>(
     dice: &mut Dice,
     tally: &mut Tally,
 ) -> Result<(), Fail> {
-    let hours = dice.up_to(5) + 1;
+    let hours = dice.one_to(6);
     let mut rows = hour_rows::<C>(rt.alloc(), dice, hours)?;
     let mut net = Lockout::new(Lockout::new(new_chain(hours, &mut rows)));
     let arcs = net.arcs();
@@ -375,7 +375,7 @@ fn over_closing<C: FileCost>(
     dice: &mut Dice,
     tally: &mut Tally,
 ) -> Result<(), Fail> {
-    let nodes = dice.up_to(7) + 1;
+    let nodes = dice.one_to(8);
     let arcs = dice.up_to(24);
     let mut rows = rows::<C>(rt.alloc(), dice, nodes, arcs, Reach::Near)?;
     let below = Lockout::new(ArcTable::new(nodes, arcs, &mut rows));

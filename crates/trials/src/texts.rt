@@ -80,7 +80,7 @@ pub fn try_texts<C: FileCost>(
 ) -> Result<(), Fail> {
     let heap = rt.alloc();
     for _ in 0..count {
-        let nodes = dice.up_to(11) + 1;
+        let nodes = dice.one_to(12);
         let arcs = dice.up_to(60);
         let reach = Reach::any(dice);
         let mut rows = rows::<C>(heap, dice, nodes, arcs, reach)?;
