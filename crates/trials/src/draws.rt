@@ -44,12 +44,19 @@ pub fn cost<C: FileCost>(dice: &mut Dice, reach: Reach) -> C {
     C::of_tiers(i64::from(first), i64::from(second))
 }
 
-/// A pair of bounds in order.
+/// A pair of bounds in order; most are around zero, so that many networks have a plan.
 pub fn bounds(dice: &mut Dice, reach: Reach) -> (i32, i32) {
     let most = reach.most(20);
-    let low = dice.around(most);
-    let from = if dice.once_in(2) { low.min(0) } else { low };
-    (from, dice.between(from, most))
+    if dice.once_in(8) {
+        let low = dice.around(most);
+        return (low, dice.between(low, most));
+    }
+    let low = if dice.once_in(2) {
+        0
+    } else {
+        0i32.saturating_sub(dice.between(0, most))
+    };
+    (low, dice.between(0, most))
 }
 
 /// A flow, within its bounds or not.
