@@ -2,4 +2,6 @@
 #![tactic(auto)]
 
 #[cfg(test)]
+mod passing;
+#[cfg(test)]
 mod piles;
