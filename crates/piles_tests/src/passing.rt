@@ -3,7 +3,7 @@
 use costs::{Plain, TwoTier};
 use hours::{HourRow, new_chain};
 use makes::ArcTable;
-use networks::{Lockout, Network, Stop, TagRing};
+use networks::{Lockout, Network, Stop};
 use plans::pass;
 use runs::Call;
 use search::FULL_BUDGET;

@@ -6,7 +6,7 @@ use Rattle.search.specs.declared.settling.Answer.{Answer}
 use Rattle.search.specs.declared.settling.Answer.TheVariants.{Least, Paused, None}
 use Rattle.files.specs.declared.faults.ReadStop.{ReadStop}
 pub use Rattle.files.specs.Faults.{refusal_line}
-use Rattle.files.specs.Kinds.{Tiers}
+pub use Rattle.files.specs.Texts.{cost_text}
 
 -- the most bytes of an answer: 40 for each flow's line, and 64 for one line more
 abbrev pub text_room : ℕ
@@ -29,10 +29,6 @@ cut_line i = codes "(cut " ++ decimal i ++ codes ")\n"
 abbrev pub cut_lines : ℕ → List ℕ → List ℕ
 cut_lines i [] = []
 cut_lines i (m ∷ ms) = (if m == 1 then cut_line i else []) ++ cut_lines (i + 1) ms
-
--- a cost by its numbers: the first, and the second where it has two
-abbrev pub cost_text : {C : Type 0} → Tiers C → C → List ℕ
-cost_text t c = signed_decimal (t.first c) ++ (if t.count == 2 then codes " " ++ signed_decimal (t.second c) else [])
 
 -- the line of a total
 abbrev pub least_line : List ℕ → List ℕ

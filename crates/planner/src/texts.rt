@@ -89,7 +89,7 @@ fn put_cost<C: FileCost>(out: &mut String, cost: C)
     ensures room { string_capacity out.old ≤ string_capacity out.new }
 {
     put_number(out, cost.first());
-    if C::tiers() == 2 {
+    if C::tiers() > 1 {
         put(out, " ");
         put_number(out, cost.second());
     }
