@@ -9,7 +9,7 @@ use search::Answer;
 use std::alloc::{AllocError, Global};
 
 /// The most cycles that the other method cancels.
-const ROUNDS: u32 = 1_000_000;
+const ROUNDS: u32 = 20_000;
 
 /// The tables of a plan.
 #[derive(Drop)]
