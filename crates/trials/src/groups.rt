@@ -120,7 +120,31 @@ pub fn hand_all<N: Network>(net: &mut N, tags: &mut TagRing<TAGS>) {
     }
 }
 
-/// So many tables under two lock-outs, with arcs out.
+// One trial of a network under lock-outs, with arcs out; they are handed back after it.
+fn try_locked<N: Network>(
+    rt: &HostRuntime,
+    dice: &mut Dice,
+    mut net: N,
+    reach: Reach,
+    tally: &mut Tally,
+) -> Result<(), Fail>
+where
+    N: Drop,
+    N::Cost: FileCost,
+{
+    let mut tags = TagRing::new();
+    take_some(dice, &mut net, &mut tags);
+    let tried = try_network(rt, dice, &net, reach, tally);
+    hand_all(&mut net, &mut tags);
+    let emptied = is_emptied(tags);
+    tried?;
+    if !emptied {
+        return Err(Fail::new("tags are left"));
+    }
+    Ok(())
+}
+
+/// So many tables under one or two lock-outs, with arcs out.
 pub fn lockouts<C: FileCost>(
     rt: &HostRuntime,
     dice: &mut Dice,
@@ -132,15 +156,11 @@ pub fn lockouts<C: FileCost>(
         let arcs = dice.up_to(ARCS);
         let reach = Reach::any(dice);
         let mut rows = rows::<C>(rt.alloc(), dice, nodes, arcs, reach)?;
-        let mut net = Lockout::new(Lockout::new(ArcTable::new(nodes, arcs, &mut rows)));
-        let mut tags = TagRing::new();
-        take_some(dice, &mut net, &mut tags);
-        let tried = try_network(rt, dice, &net, reach, &mut tally);
-        hand_all(&mut net, &mut tags);
-        let emptied = is_emptied(tags);
-        tried?;
-        if !emptied {
-            return Err(Fail::new("tags are left"));
+        let below = Lockout::new(ArcTable::new(nodes, arcs, &mut rows));
+        if dice.once_in(2) {
+            try_locked(rt, dice, below, reach, &mut tally)?;
+        } else {
+            try_locked(rt, dice, Lockout::new(below), reach, &mut tally)?;
         }
     }
     Ok(tally)
