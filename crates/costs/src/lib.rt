@@ -22,7 +22,7 @@ mod printing;
 pub const SIZE_LIMIT: i64 = 4_000_000_000_000_000;
 
 // A kind of costs.
-pub trait CostKind: Copy + Ord {
+pub trait CostKind: Copy {
     // The true operations.
     ghost kind: { Kind Self };
 
@@ -39,20 +39,20 @@ pub trait CostKind: Copy + Ord {
     fn times(self, k: i32) -> Option<Self>
         ensures { result ≡ answered kind.size (kind.times k self) };
 
+    // Whether it is below the other or equal to it.
+    fn at_most(self, other: Self) -> bool
+        ensures { result ≡ kind.le self other };
+
     fn size(self) -> u64
         ensures { result ≡ kind.size self };
 
-    // Whether it is below the other or equal to it, as `<=` says too.
-    final fn at_most(self, other: Self) -> bool
-        ensures { result ≡ kind.le self other }
-    {
-        self <= other
-    }
-
     ghost lawful: { Laws kind };
+}
 
+// A kind whose type is compared by `<` and `<=` too.
+pub trait OrderedCost: CostKind + Ord {
     // The comparisons of the type are those of the kind.
-    ghost ordered: { Ordered kind Self.partial_cmp };
+    ghost ordered: { Ordered Self.CostKind.kind Self.partial_cmp };
 }
 
 // One whole number.
@@ -98,8 +98,6 @@ impl CostKind for Plain {
 
     ghost lawful = { plain_laws };
 
-    ghost ordered = { record { at_most = λ a b. Prim.grind (rules, ints); below = λ a b. Prim.grind (rules, ints) } };
-
     fn zero() -> Plain {
         Plain { units: 0 }
     }
@@ -122,9 +120,17 @@ impl CostKind for Plain {
         })
     }
 
+    fn at_most(self, other: Plain) -> bool {
+        self.units <= other.units
+    }
+
     fn size(self) -> u64 {
         self.units.unsigned_abs()
     }
+}
+
+impl OrderedCost for Plain {
+    ghost ordered = { record { at_most = λ a b. Prim.grind (rules, ints); below = λ a b. Prim.grind (rules, ints) } };
 }
 
 // The two tiers, if both are there.
@@ -141,8 +147,6 @@ impl CostKind for TwoTier {
     ghost kind = { two_tier_kind };
 
     ghost lawful = { two_tier_laws };
-
-    ghost ordered = { record { at_most = λ a b. Prim.grind (rules, ints); below = λ a b. Prim.grind (rules, ints) } };
 
     fn zero() -> TwoTier {
         TwoTier {
@@ -163,7 +167,15 @@ impl CostKind for TwoTier {
         both(product(k, self.first), product(k, self.second))
     }
 
+    fn at_most(self, other: TwoTier) -> bool {
+        self.first < other.first || (self.first == other.first && self.second <= other.second)
+    }
+
     fn size(self) -> u64 {
         self.first.unsigned_abs().max(self.second.unsigned_abs())
     }
+}
+
+impl OrderedCost for TwoTier {
+    ghost ordered = { record { at_most = λ a b. Prim.grind (rules, ints); below = λ a b. Prim.grind (rules, ints) } };
 }

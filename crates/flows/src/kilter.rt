@@ -22,10 +22,10 @@ pub fn amiss<C: CostKind>(seen: Seen<C>) -> Option<bool>
     if f > arc.hi {
         return Some(false);
     }
-    if c < C::zero() && f < arc.hi {
+    if !C::zero().at_most(c) && f < arc.hi {
         return Some(true);
     }
-    if c > C::zero() && f > arc.lo {
+    if !c.at_most(C::zero()) && f > arc.lo {
         return Some(false);
     }
     None

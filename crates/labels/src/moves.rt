@@ -12,8 +12,12 @@ pub fn limit<C: CostKind>(seen: Seen<C>, along: bool) -> i32
 {
     let Seen { arc, cost, .. } = seen;
     if along {
-        if cost <= C::zero() { arc.hi } else { arc.lo }
-    } else if cost >= C::zero() {
+        if cost.at_most(C::zero()) {
+            arc.hi
+        } else {
+            arc.lo
+        }
+    } else if C::zero().at_most(cost) {
         arc.lo
     } else {
         arc.hi

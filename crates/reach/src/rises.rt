@@ -51,7 +51,7 @@ fn lesser<C: CostKind>(own: Option<C>, best: Option<Best<C>>) -> Option<Rise<C>>
         return own.map(Rise::Kilter);
     };
     match own {
-        Some(c) if c <= b.slack => Some(Rise::Kilter(c)),
+        Some(c) if c.at_most(b.slack) => Some(Rise::Kilter(c)),
         _ => Some(Rise::Label(b)),
     }
 }

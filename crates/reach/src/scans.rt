@@ -43,9 +43,9 @@ fn slack<C: CostKind>(seen: Seen<C>, along: bool) -> Option<C>
 {
     let Seen { arc, cost, flow } = seen;
     if along {
-        (cost > C::zero() && flow < arc.hi).then_some(cost)
+        (!cost.at_most(C::zero()) && flow < arc.hi).then_some(cost)
     } else {
-        (cost < C::zero() && flow > arc.lo).then(|| opposite(cost))
+        (!C::zero().at_most(cost) && flow > arc.lo).then(|| opposite(cost))
     }
 }
 
@@ -53,7 +53,7 @@ fn nearer<C: CostKind>(best: Option<Best<C>>, b: Best<C>) -> Best<C>
     ensures { result ≡ nearer_of C.CostKind.kind best b }
 {
     match best {
-        Some(d) if d.slack <= b.slack => d,
+        Some(d) if d.slack.at_most(b.slack) => d,
         _ => b,
     }
 }

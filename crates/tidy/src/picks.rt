@@ -33,10 +33,10 @@ fn nearer<C: CostKind>(a: C, b: C) -> bool
     ensures { result ≡ is_nearer C.CostKind.kind a b }
 {
     let zero = C::zero();
-    if b >= zero {
-        a >= zero && a <= b
+    if zero.at_most(b) {
+        zero.at_most(a) && a.at_most(b)
     } else {
-        a >= zero || a >= b
+        zero.at_most(a) || b.at_most(a)
     }
 }
 
