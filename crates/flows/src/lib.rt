@@ -2,8 +2,8 @@
 //
 // specs/ defines imbalances, totals, kilter, laps, cuts, which stop comes first, and what the search owes
 // for each of its answers, also in words. Beside the definitions stand functions that equal them:
-// `first_stop`, `imbalance`, `imbalances`, `total`, `distance`, `reduced`, `amiss`. `arcs_of` gives the arcs
-// of a network in turn, and `raise` changes prices for every search. The functions of `theorems` do
+// `first_stop`, `imbalance`, `imbalances`, `total` (within the limits), `checked_total` (of any flow),
+// `distance`, `reduced`, `amiss`. `arcs_of` gives the arcs of a network in turn, and `raise` changes prices for every search. The functions of `theorems` do
 // nothing: the contract of each is a theorem, proved once for every cost kind. `Step` is one step of a
 // chain of arcs, which laps are made of.
 //
@@ -34,5 +34,5 @@ pub use theorems::{
     cut_shows_none, kept_signs_ease, kilter_is_least, kilter_sum_is_limited, kilter_sum_tells,
     laps_keep_imbalances, least_stays,
 };
-pub use totals::total;
+pub use totals::{checked_total, total};
 pub use views::{Seen, View};

@@ -52,7 +52,7 @@ pub fn pass_stop<N: Network>(
     ensures { refusal result ≡ pass_stop_of N.Cost.CostKind.kind (N.meaning net.now)
         flow.now needs.now prices.now (length marks.now) }
 {
-    first_stop(net, flow, needs, prices, marks)?;
+    first_stop(net, flow, needs, prices.len(), marks.len())?;
     prices_fault(prices)?;
     kilter_fault(&View { net, flow, prices })
 }

@@ -73,37 +73,33 @@ fn needs_fault<N: Network>(net: &N, flow: &[i32], needs: &[i32]) -> Result<(), S
     Ok(())
 }
 
-// The first stop of a network with its tables, if there is one.
+// The first stop of a network with its tables, if there is one; of the prices and the marks the lengths.
 pub fn first_stop<N: Network>(
     net: &N,
     flow: &[i32],
     needs: &[i32],
-    prices: &[N::Cost],
-    marks: &[u8],
+    prices: usize,
+    marks: usize,
 ) -> Result<(), Stop>
-    ensures { refusal result ≡ first_stop_of N.Cost.CostKind.kind.size (N.meaning net.now) flow.now needs.now (length prices.now) (length marks.now) }
+    ensures { refusal result ≡ first_stop_of N.Cost.CostKind.kind.size (N.meaning net.now) flow.now needs.now prices marks }
 {
-    open_stop(net, flow, needs, prices, marks)?;
+    open_stop(net, flow, needs.len(), prices, marks)?;
     needs_fault(net, flow, needs)
 }
 
-// The first stop where a plan is opened at this flow; of its other tables the lengths count.
+// The first stop where a plan is opened at this flow; of its other tables the lengths.
 pub fn open_stop<N: Network>(
     net: &N,
     flow: &[i32],
-    needs: &[i32],
-    prices: &[N::Cost],
-    marks: &[u8],
+    needs: usize,
+    prices: usize,
+    marks: usize,
 ) -> Result<(), Stop>
-    ensures { refusal result ≡ open_stop_of N.Cost.CostKind.kind.size (N.meaning net.now) flow.now (length needs.now) (length prices.now) (length marks.now) }
+    ensures { refusal result ≡ open_stop_of N.Cost.CostKind.kind.size (N.meaning net.now) flow.now needs prices marks }
 {
     let nodes = net.nodes();
     check_counts(nodes, net.arcs())?;
-    if flow.len() != net.arcs()
-        || needs.len() != nodes
-        || prices.len() != nodes
-        || marks.len() != nodes
-    {
+    if flow.len() != net.arcs() || needs != nodes || prices != nodes || marks != nodes {
         return Err(Stop::Lengths);
     }
     arcs_fault(net, flow)
@@ -115,10 +111,10 @@ pub fn take_up_stop<N: Network>(
     own: usize,
     offered: &[i32],
     needs: &[i32],
-    prices: &[N::Cost],
-    marks: &[u8],
+    prices: usize,
+    marks: usize,
 ) -> Result<(), Stop>
-    ensures { refusal result ≡ take_up_stop_of N.Cost.CostKind.kind.size (N.meaning net.now) own offered.now needs.now (length prices.now) (length marks.now) }
+    ensures { refusal result ≡ take_up_stop_of N.Cost.CostKind.kind.size (N.meaning net.now) own offered.now needs.now prices marks }
 {
     check_counts(net.nodes(), net.arcs())?;
     if own != net.arcs() {

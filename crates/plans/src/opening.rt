@@ -20,7 +20,7 @@ pub fn open<N: Network>(
     ensures leaves { state (N.meaning net.now) flow.now needs.new prices.now marks.now ≡ unless (opening_stop N.Cost.CostKind.kind (state (N.meaning net.now) flow.now needs.old prices.now marks.now)) (state (N.meaning net.now) flow.now needs.old prices.now marks.now) (opened (state (N.meaning net.now) flow.now needs.old prices.now marks.now)) }
     ensures new { result ≡ Ok tt → New N.Cost.CostKind.kind (state (N.meaning net.now) flow.now needs.new prices.now marks.now) }
 {
-    open_stop(net, flow, needs, prices, marks)?;
+    open_stop(net, flow, needs.len(), prices.len(), marks.len())?;
     imbalances(net, flow, needs);
     Ok(())
 }

@@ -43,7 +43,7 @@ pub fn take_up<N: Network>(
 ) -> Result<(), Stop>
     ensures { Keeps N.Cost.CostKind.kind (state (N.meaning net.now) flow.old needs.now prices.now marks.now) (event (take_up_of offered.now) (done_came result)) (state (N.meaning net.now) flow.new needs.now prices.now marks.now) }
 {
-    take_up_stop(net, flow.len(), offered, needs, prices, marks)?;
+    take_up_stop(net, flow.len(), offered, needs, prices.len(), marks.len())?;
     copy(flow, offered);
     Ok(())
 }

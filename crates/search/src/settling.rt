@@ -16,7 +16,7 @@ ghost use Rattle.search.specs.Settling.{end_of, is_none_answer, HasTotal, tables
 use crate::guard::{Restore, save};
 use crate::seek::{Halt, seek};
 use costs::CostKind;
-use flows::{arcs_of, first_stop, total};
+use flows::{arcs_of, checked_total, first_stop};
 use networks::{Network, Stop};
 use tidy::tidy;
 
@@ -81,7 +81,7 @@ fn search<N: Network>(
 {
     match seek(net, flow, prices, marks, budget) {
         Ok(laps) => Answer::Least {
-            total: total(net, flow).unwrap(),
+            total: checked_total(net, flow).unwrap(),
             laps,
         },
         Err(Halt::Paused(laps)) => Answer::Paused { laps },
@@ -102,7 +102,7 @@ pub fn settle<N: Network>(
     ensures settles { Settled N.Cost.CostKind.kind (N.meaning net.now) budget (tables flow.old needs.now prices.old marks.old) result (tables flow.new needs.now prices.new marks.new) }
     ensures words { Worded N.Cost.CostKind.kind (N.meaning net.now) budget (tables flow.old needs.now prices.old marks.old) result (tables flow.new needs.now prices.new marks.new) }
 {
-    first_stop(net, flow, needs, prices, marks)?;
+    first_stop(net, flow, needs, prices.len(), marks.len())?;
     let most = (prices.len() as u64 - 1) * largest_cost(net);
     read_prices(prices, most);
     clear(marks);

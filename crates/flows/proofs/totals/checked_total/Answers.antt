@@ -4,7 +4,7 @@ use Rattle.networks.specs.Nets.{shown}
 use Rattle.flows.specs.Flows.{running_total, added}
 use Rattle.flows.proofs.Turns.{none_left}
 use Rattle.flows.proofs.RunningTotals.{running_turns, running_end, total_within}
-use Rattle.flows.proofs.totals.total.Goals as goal
+use Rattle.flows.proofs.totals.checked_total.Goals as goal
 
 pub returns : goal.returns
 returns g c =
