@@ -2,6 +2,7 @@
 use Rattle.std.proofs.Common.{◌≡◌, ℕ, zero, suc, ◌+◌, ◌<◌, ◌≤◌, cond, eqb, ◌⊎◌, List, [], ◌∷◌, length, get_or, take, set, ℤ, pos, ◌+ℤ◌, sym, refl, ap, ◌∙◌, subst, ap₂, subst₂, inl, inr, add_assoc, add_comm, suc-add, zero-add, arith}
 use lib.IntN.{+ℤ_assoc, +ℤ_comm, +ℤ_idl}
 use Rattle.std.specs.List.{AllByRecursion}
+use Rattle.std.proofs.ByRecursion.{All-get_or}
 use Rattle.std.proofs.lemmas.List.{get_or_default}
 use Rattle.std.proofs.lemmas.Bool.{eq-eqb, ne_eqb, cases_eq}
 use Rattle.costs.specs.Kinds.{Kind, Laws}
@@ -17,6 +18,9 @@ pub at_place : {X : Type 0} (xs : List X) (i : ℕ) → i < length xs → (x : X
 at_place [] i h = absurd (omega arith)
 at_place (y ∷ ys) zero h = (y, (h, refl))
 at_place (y ∷ ys) (suc i) h = let r = at_place ys i (omega arith) in (r.0, (h, r.1.1))
+
+pub all_at : {X : Type 0} (P : X → Type 0) (xs : List X) (i : ℕ) (x : X) → AllByRecursion P xs → IsAt xs i x → P x
+all_at P xs i x h (l, e) = subst P (sym e) (All-get_or P xs i x l h)
 
 pub all_from : {X : Type 0} (P : X → Type 0) (xs : List X) → ((i : ℕ) (x : X) → IsAt xs i x → P x) → AllByRecursion P xs
 all_from P [] h = tt

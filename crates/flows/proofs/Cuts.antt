@@ -1,5 +1,5 @@
 -- A cut shows that no flow within the bounds has the needs; and how a search comes to one.
-use Rattle.std.proofs.Common.{◌≡◌, ℕ, zero, suc, ◌+◌, ◌-◌, ◌<◌, ◌≤◌, Bool, true, false, cond, not, ◌&&◌, ◌⊎◌, List, [], ◌∷◌, length, get_or, ℤ, pos, ◌+ℤ◌, ◌-ℤ◌, ◌≤ℤ◌, ◌<ℤ◌, sym, refl, ap, ◌∙◌, subst, ap₂, arith}
+use Rattle.std.proofs.Common.{◌≡◌, ℕ, zero, suc, ◌+◌, ◌-◌, ◌<◌, ◌≤◌, Bool, true, false, cond, not, ◌&&◌, ◌⊎◌, List, [], ◌∷◌, length, get_or, ℤ, pos, ◌+ℤ◌, ◌-ℤ◌, ◌≤ℤ◌, ◌<ℤ◌, sym, refl, ap, ◌∙◌, subst, ap₂, subst₂, arith}
 use borrow.Author.Differences.{ints}
 use Rattle.std.specs.List.{AllByRecursion}
 use Rattle.std.proofs.ByRecursion.{All-weaker}
@@ -109,3 +109,20 @@ cut_shows_none C arcs needs inside ends cut fs within meets =
   where
     clash : (w o i c : ℤ) → w +ℤ i ≡ o → (o -ℤ i) ≤ℤ c → c <ℤ w → ⊥
     clash w o i c e l h = omega (arith, ints)
+
+needs_same : (p q : ℕ → Bool) (N : ℕ) → ((n : ℕ) → 1 ≤ n → n ≤ N → p n ≡ q n) → (k : ℕ) (needs : List ℤ) → 1 ≤ k → k + length needs ≤ N + 1 → needed_from k p needs ≡ needed_from k q needs
+needs_same p q N same k [] l h = refl
+needs_same p q N same k (x ∷ needs) l h = ap₂ (λ b r. cond b x (pos 0) +ℤ r) (same k l (omega arith)) (needs_same p q N same (suc k) needs (omega arith) (omega arith))
+
+-- a cut is one by every test that agrees on the nodes
+module _ {C : Type 0} (p q : ℕ → Bool) (N : ℕ) (same : (n : ℕ) → 1 ≤ n → n ≤ N → p n ≡ q n) where
+  leave_same : (arcs : List (Arc C)) → AllByRecursion (Ends N) arcs → can_leave p arcs ≡ can_leave q arcs
+  leave_same [] e = refl
+  leave_same (a ∷ rest) ((k, l, m, n), es) = ap₂ ◌+ℤ◌ (ap₂ (λ x y. cond (x && not y) a.hi (pos 0)) (same a.from k l) (same a.to m n)) (leave_same rest es)
+
+  enter_same : (arcs : List (Arc C)) → AllByRecursion (Ends N) arcs → must_enter p arcs ≡ must_enter q arcs
+  enter_same [] e = refl
+  enter_same (a ∷ rest) ((k, l, m, n), es) = ap₂ ◌+ℤ◌ (ap₂ (λ x y. cond (y && not x) a.lo (pos 0)) (same a.from k l) (same a.to m n)) (enter_same rest es)
+
+  pub cut_same : (arcs : List (Arc C)) (needs : List ℤ) → length needs ≡ N → AllByRecursion (Ends N) arcs → Cut arcs needs p → Cut arcs needs q
+  cut_same arcs needs l ends cut = subst₂ (λ x y. x <ℤ y) (ap₂ ◌-ℤ◌ (leave_same arcs ends) (enter_same arcs ends)) (needs_same p q N same 1 needs (omega arith) (omega arith)) cut

@@ -93,3 +93,7 @@ module _ {C : Type 0} (K : Kind C) where
   -- laps leave the needs met
   pub laps_meet : (arcs : List (Arc C)) (needs f g : List ℤ) (n : ℕ) → length f ≡ length arcs → Laps K arcs f n g → Meets arcs needs f → Meets arcs needs g
   laps_meet arcs needs f g n l laps meets m lo hi = laps_keep arcs f g n l laps m ∙ meets m lo hi
+
+  pub laps_long : (arcs : List (Arc C)) (f g : List ℤ) (n : ℕ) → Laps K arcs f n g → length g ≡ length f
+  laps_long arcs f g zero e = ap length (sym e)
+  laps_long arcs f g (suc n) (h, lap, better, laps) = laps_long arcs h g n laps ∙ lap_long arcs f h lap

@@ -103,6 +103,11 @@ module _ {C : Type 0} (K : Kind C) (laws : Laws K) where
   pub sign_trans : (a b c : C) → SignKept K a b → SignKept K b c → SignKept K a c
   sign_trans a b c h k = record { up = λ x. k.up (h.up x); down = λ x. k.down (h.down x) }
 
+  pub zero_kept : (c d : C) → SignKept K c d → c ≡ K.zero → d ≡ K.zero
+  zero_kept c d k e = laws.antisym d K.zero
+      (k.down (subst (λ z. K.le z K.zero ≡ true) (sym e) (le_refl K laws K.zero)))
+      (k.up (subst (λ z. K.le K.zero z ≡ true) (sym e) (le_refl K laws K.zero)))
+
   pub arc_eased : (c d : C) (a : Arc C) (f : ℤ) → a.lo ≤ℤ a.hi → SignKept K c d → kilter_number K d a f ≤ kilter_number K c a f
   arc_eased c d a f h k = signs_repriced (K.le K.zero c) (K.le c K.zero) (K.le K.zero d) (K.le d K.zero) a.lo a.hi f h (laws.total K.zero c) k.up k.down
 

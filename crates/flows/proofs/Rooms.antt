@@ -1,5 +1,5 @@
 -- A lap whose steps have room, the first over an arc out of kilter that way, leads to a better flow, nearer to kilter.
-use Rattle.std.proofs.Common.{◌≡◌, ℕ, ◌+◌, ◌<◌, ◌≤◌, Bool, true, false, cond, not, ◌⊎◌, List, [], ◌∷◌, map, length, get_or, set, ℤ, pos, negsuc, ◌+ℤ◌, neg_ℤ, ◌≤ℤ◌, ◌<ℤ◌, sym, refl, ap, ◌∙◌, subst, ap₂, subst₂, inl, inr, ⊎_elim, arith, length-set}
+use Rattle.std.proofs.Common.{◌≡◌, ℕ, ◌+◌, ◌<◌, ◌≤◌, Bool, true, false, cond, not, ◌⊎◌, List, [], ◌∷◌, map, length, get_or, set, ℤ, pos, negsuc, ◌+ℤ◌, neg_ℤ, nat_abs, ◌≤ℤ◌, ◌<ℤ◌, sym, refl, ap, ◌∙◌, subst, ap₂, subst₂, inl, inr, ⊎_elim, arith, length-set}
 use borrow.Author.Differences.{ints}
 use Rattle.std.specs.List.{AllByRecursion}
 use Rattle.std.proofs.lemmas.List.{get_or-set_same, get_or-set_other}
@@ -7,13 +7,14 @@ use Rattle.std.proofs.lemmas.Bool.{cases_eq}
 use Rattle.costs.specs.Kinds.{Kind, Laws, sums, minus}
 use Rattle.networks.specs.declared.network.Arc.{Arc}
 use Rattle.flows.specs.declared.steps.Step.{Step}
-use Rattle.flows.specs.Flows.{total, outside, excess}
+use Rattle.flows.specs.Flows.{total, outside, excess, EachArc, Limited}
 use Rattle.flows.specs.Kilter.{price, reduced, kilter_number, kilter_sum}
 use Rattle.networks.specs.Nets.{IsAt}
+use Rattle.networks.specs.Limits.{flow_limit}
 use Rattle.flows.specs.searching.Ways.{Amiss}
 use Rattle.flows.specs.Laps.{near, far, Leads, first, Chain, Apart, moved, sent, Better}
 use Rattle.flows.proofs.Group.{assoc, comm, left, left_comm, swap, cancel, cancel_le, cancel_less, le_refl, add_le, below, times_zero, times_one, times_add, times_plus, times_minus, times_cancel, times_up, times_down}
-use Rattle.flows.proofs.ArcSums.{naturals, costs, over_set}
+use Rattle.flows.proofs.ArcSums.{at_place, each_get_or, each_set, naturals, costs, over_set}
 use Rattle.flows.proofs.Numbers.{Eases, Mends, along_eases, against_eases, along_mends, against_mends}
 
 -- the arc has room for the change from f to g: along, up to hi where its reduced cost is not above zero, else up to lo; against alike
@@ -31,7 +32,30 @@ abbrev pub Roomy : {C : Type 0} → Kind C → List C → List (Arc C) → ℤ �
 Roomy K ps arcs x [] fs = Unit {0}
 Roomy K ps arcs x (s ∷ rest) fs = HasRoom K ps arcs x fs s × Roomy K ps arcs x rest (set fs s.arc (moved x s fs))
 
+-- a step with room stays within the limits
+pub room_limited : {C : Type 0} (K : Kind C) (ps : List C) (a : Arc C) (along : Bool) (f g : ℤ) → Room K ps a along f g → Limited a f → nat_abs g ≤ flow_limit
+room_limited K ps a true f g r (l, h, k) = go (K.le (reduced K ps a) K.zero) (r.if_along refl).1
+  where
+    go : (d : Bool) → g ≤ℤ cond d a.hi a.lo → nat_abs g ≤ flow_limit
+    go true q = let m = (r.if_along refl).0 in omega (arith, ints)
+    go false q = let m = (r.if_along refl).0 in omega (arith, ints)
+room_limited K ps a false f g r (l, h, k) = go (K.le K.zero (reduced K ps a)) (r.if_against refl).1
+  where
+    go : (u : Bool) → cond u a.lo a.hi ≤ℤ g → nat_abs g ≤ flow_limit
+    go true q = let m = (r.if_against refl).0 in omega (arith, ints)
+    go false q = let m = (r.if_against refl).0 in omega (arith, ints)
+
 module _ {C : Type 0} (K : Kind C) (ps : List C) (arcs : List (Arc C)) where
+  -- flows stay within the limits
+  pub sent_limited : (x : ℤ) (steps : List Step) (fs : List ℤ) → AllByRecursion (λ s. s.arc < length arcs) steps → EachArc Limited arcs fs → Roomy K ps arcs x steps fs → EachArc Limited arcs (sent x steps fs)
+  sent_limited x [] fs is h r = h
+  sent_limited x (s ∷ rest) fs (i, is) h (r, rs) =
+      let at = at_place arcs s.arc i in
+      let here = each_get_or Limited arcs fs s.arc at.0 h at.1 in
+      sent_limited x rest (set fs s.arc (moved x s fs)) is
+      (each_set Limited arcs fs s.arc at.0 (moved x s fs) h at.1
+      (here.0, here.1, room_limited K ps at.0 s.along (get_or fs s.arc (pos 0)) (moved x s fs) (r at.0 at.1) here)) rs
+
   kept_room : (x : ℤ) (fs : List ℤ) (i : ℕ) (y : ℤ) (steps : List Step) → AllByRecursion (λ j. ¬ (i ≡ j)) (map (λ s. s.arc) steps) → AllByRecursion (HasRoom K ps arcs x fs) steps → AllByRecursion (HasRoom K ps arcs x (set fs i y)) steps
   kept_room x fs i y [] n h = tt
   kept_room x fs i y (s ∷ rest) (n, ns) (h, hs) =

@@ -1,12 +1,14 @@
 -- An arc out of kilter wants to gain or to lose, and has room for it; an arc whose number does not rise stays in kilter.
-use Rattle.std.proofs.Common.{◌≡◌, ◌≤◌, Bool, true, false, cond, ◌⊎◌, List, ℤ, ◌≤ℤ◌, ◌<ℤ◌, sym, subst, inl, inr, arith}
+use Rattle.std.proofs.Common.{◌≡◌, ◌≤◌, Bool, true, false, cond, not, ◌&&◌, ◌||◌, ◌⊎◌, List, ℤ, ◌≤ℤ◌, ◌<ℤ◌, sym, subst, inl, inr, arith}
+use lib.Signed.{lt_z}
 use borrow.Author.Differences.{ints}
+use Rattle.std.proofs.lemmas.Bool.{or_cases, and_parts, not-true}
 use Rattle.costs.specs.Kinds.{Kind, Laws}
 use Rattle.networks.specs.declared.network.Arc.{Arc}
 use Rattle.flows.specs.Flows.{Within}
 use Rattle.flows.specs.Kilter.{reduced, out_of_kilter, kilter_number}
 use Rattle.flows.proofs.Group.{le_refl}
-use Rattle.flows.proofs.Numbers.{number_zero, zero_number}
+use Rattle.flows.proofs.Numbers.{off, number_zero, zero_number}
 use Rattle.flows.specs.searching.Ways.{Amiss}
 
 -- it wants to gain: flow < lo, or c < 0 with flow < hi
@@ -16,6 +18,27 @@ WantsMore K c a f = (f <ℤ a.lo) ⊎ ((K.le K.zero c ≡ false) × (f <ℤ a.hi
 -- it wants to lose: flow > hi, or c > 0 with flow > lo
 abbrev pub WantsLess : {C : Type 0} → Kind C → C → Arc C → ℤ → Type 0
 WantsLess K c a f = (a.hi <ℤ f) ⊎ ((K.le c K.zero ≡ false) × (a.lo <ℤ f))
+
+is_below : (x y : ℤ) → lt_z x y ≡ true → x <ℤ y
+is_below x y e = grind (arith, ints)
+
+ways : (u d : Bool) (lo hi f : ℤ) → off u d lo hi f ≡ true → ((f <ℤ lo) ⊎ ((u ≡ false) × (f <ℤ hi))) ⊎ ((hi <ℤ f) ⊎ ((d ≡ false) × (lo <ℤ f)))
+ways u d lo hi f e = first (or_cases (lt_z f lo) (lt_z hi f || ((not u && lt_z f hi) || (not d && lt_z lo f))) e)
+  where
+    third : ((not u && lt_z f hi) ≡ true) ⊎ ((not d && lt_z lo f) ≡ true) → ((f <ℤ lo) ⊎ ((u ≡ false) × (f <ℤ hi))) ⊎ ((hi <ℤ f) ⊎ ((d ≡ false) × (lo <ℤ f)))
+    third (inl h) = let p = and_parts (not u) (lt_z f hi) h in inl (inr (not-true u p.0, is_below f hi p.1))
+    third (inr h) = let p = and_parts (not d) (lt_z lo f) h in inr (inr (not-true d p.0, is_below lo f p.1))
+
+    second : (lt_z hi f ≡ true) ⊎ (((not u && lt_z f hi) || (not d && lt_z lo f)) ≡ true) → ((f <ℤ lo) ⊎ ((u ≡ false) × (f <ℤ hi))) ⊎ ((hi <ℤ f) ⊎ ((d ≡ false) × (lo <ℤ f)))
+    second (inl h) = inr (inl (is_below hi f h))
+    second (inr h) = third (or_cases (not u && lt_z f hi) (not d && lt_z lo f) h)
+
+    first : (lt_z f lo ≡ true) ⊎ ((lt_z hi f || ((not u && lt_z f hi) || (not d && lt_z lo f))) ≡ true) → ((f <ℤ lo) ⊎ ((u ≡ false) × (f <ℤ hi))) ⊎ ((hi <ℤ f) ⊎ ((d ≡ false) × (lo <ℤ f)))
+    first (inl h) = inl (inl (is_below f lo h))
+    first (inr h) = second (or_cases (lt_z hi f) ((not u && lt_z f hi) || (not d && lt_z lo f)) h)
+
+pub out_ways : {C : Type 0} (K : Kind C) (c : C) (a : Arc C) (f : ℤ) → out_of_kilter K c a f ≡ true → WantsMore K c a f ⊎ WantsLess K c a f
+out_ways K c a f e = ways (K.le K.zero c) (K.le c K.zero) a.lo a.hi f e
 
 module _ {C : Type 0} (K : Kind C) (laws : Laws K) where
   room_up : (u d : Bool) (lo hi f : ℤ) → (u ≡ false → d ≡ true) → lo ≤ℤ hi → (f <ℤ lo) ⊎ ((u ≡ false) × (f <ℤ hi)) → f <ℤ cond d hi lo

@@ -93,25 +93,22 @@ module _ {C : Type 0} (K : Kind C) (laws : Laws K) (ms : List Bool) (ps : List C
           lands_first = λ e. absurd (omega (arith, f.some));
         }
 
-    pub any_good : Bounded K price_limit ps → length ms ≡ length ps → 1 ≤ unmarked ms → None ≡ nearest_of K ps ms None arcs → GoodPick K arcs ms ps (first_free_of K ps ms)
-    any_good moderate alike some h = record {
-      inside = inside;
-      free = (first_free ms some).1;
-      moderate = omega (arith, size_neg K laws here, moderate i inside);
-      keeps = kept_all (K.neg here) (All-weaker (λ a. slack_of K ps ms a ≡ None) (λ a. (q : Pick C) → slack_of K ps ms a ≡ Some q → nearer K (K.neg here) q.far ≡ true)
+    -- where nothing is near, any free place will do
+    pub any_good : Bounded K price_limit ps → (i : ℕ) (far at : C) → at ≡ get_or ps i K.zero → far ≡ K.neg at → i < length ps → get_or ms i false ≡ false → None ≡ nearest_of K ps ms None arcs → GoodPick K arcs ms ps (picked i far)
+    any_good moderate i far at d e l m h = subst (λ z. GoodPick K arcs ms ps (picked i z)) (sym (e ∙ ap K.neg d)) (record {
+      inside = l;
+      free = m;
+      moderate = omega (arith, size_neg K laws (get_or ps i K.zero), moderate i l);
+      keeps = kept_all (K.neg (get_or ps i K.zero)) (All-weaker (λ a. slack_of K ps ms a ≡ None) (λ a. (q : Pick C) → slack_of K ps ms a ≡ Some q → nearer K (K.neg (get_or ps i K.zero)) q.far ≡ true)
           (λ a n q s. cc) arcs (nearest_none K laws ps ms arcs None (sym h)).1);
       lands = λ b k. omega (arith, zero_there);
       lands_first = λ e. zero_there;
-    }
+    })
       where
-        i : ℕ
-        i = (first_free_of K ps ms).place
+        zero_there : K.size (K.plus (get_or ps i K.zero) (K.neg (get_or ps i K.zero))) ≡ 0
+        zero_there = ap K.size (laws.cancels (get_or ps i K.zero)) ∙ size_zero K laws
 
-        here : C
-        here = get_or ps i K.zero
-
-        inside : i < length ps
-        inside = omega (arith, (first_free ms some).0, alike)
-
-        zero_there : K.size (K.plus here (K.neg here)) ≡ 0
-        zero_there = ap K.size (laws.cancels here) ∙ size_zero K laws
+    pub first_free_good : Bounded K price_limit ps → length ms ≡ length ps → 1 ≤ unmarked ms → None ≡ nearest_of K ps ms None arcs → GoodPick K arcs ms ps (first_free_of K ps ms)
+    first_free_good moderate alike some h =
+        let p = first_free_of K ps ms in
+        any_good moderate p.place p.far (get_or ps p.place K.zero) refl refl (omega (arith, (first_free ms some).0, alike)) (first_free ms some).1 h

@@ -63,18 +63,7 @@ module _ {C : Type 0} (K : Kind C) (laws : Laws K) (arcs : List (Arc C)) where
       same [] = tt
       same (a ∷ rest) = (sign_same K laws (reduced K old a) (reduced K old a) refl, same rest)
 
-  module _ (old ps : List C) (ms : List Bool) (k : ℕ) (t : Tidying K arcs old ps ms k) (small : Bounded K found_limit old) where
-    old_small : SmallPrices K (length old) old found_limit
-    old_small n l h = small (n - 1) (omega arith)
-
-    -- every price is moderate
-    pub all_moderate : k ≤ 256 → largest K arcs ≤ 1000000 → Bounded K price_limit ps
-    all_moderate h l u b =
-        let near = (k - 1) * largest K arcs in
-        let e : suc u - 1 ≡ u = omega arith in
-        let each = all_small K laws (length old) old (labelled_at ms) ps t.shift t.rest found_limit near (found_limit + near) old_small t.near t.shift_size (suc u) (omega arith) (omega (arith, b, t.sized)) in
-        omega (arith, ap (λ z. K.size (get_or ps z K.zero)) e, each, few k (largest K arcs) h l)
-
+  module _ (old ps : List C) (ms : List Bool) (k : ℕ) (t : Tidying K arcs old ps ms k) where
     -- all are labelled
     pub finish : k ≡ length old → Tidied K arcs old ps
     finish e = record {
@@ -86,6 +75,18 @@ module _ {C : Type 0} (K : Kind C) (laws : Laws K) (arcs : List (Arc C)) where
           (subst (λ z. K.size (price K ps (suc u)) ≤ (z - 1) * largest K arcs) e (t.near (suc u) (omega arith) (omega (arith, t.sized)) (ap (λ z. get_or ms z false) d ∙ l)));
       long = t.sized;
     }
+
+  module _ (old ps : List C) (ms : List Bool) (k : ℕ) (t : Tidying K arcs old ps ms k) (small : Bounded K found_limit old) where
+    old_small : SmallPrices K (length old) old found_limit
+    old_small n l h = small (n - 1) (omega arith)
+
+    -- every price is moderate
+    pub all_moderate : k ≤ 256 → largest K arcs ≤ 1000000 → Bounded K price_limit ps
+    all_moderate h l u b =
+        let near = (k - 1) * largest K arcs in
+        let e : suc u - 1 ≡ u = omega arith in
+        let each = all_small K laws (length old) old (labelled_at ms) ps t.shift t.rest found_limit near (found_limit + near) old_small t.near t.shift_size (suc u) (omega arith) (omega (arith, b, t.sized)) in
+        omega (arith, ap (λ z. K.size (get_or ps z K.zero)) e, each, few k (largest K arcs) h l)
 
     module _ (qs : List C) (p : Pick C) (good : GoodPick K arcs ms ps p) (long : length qs ≡ length ps) (raised' : Raised K (length ps) p.far (labelled_at ms) ps qs) where
       inside_marks : p.place < length ms

@@ -27,4 +27,4 @@ loop-preserved g c =
 
 pub returns : goal.returns
 returns g c =
-    finish g.N.Cost.CostKind.kind g.met.N.Cost.CostKind.lawful (shown (g.N.Network.meaning c.args.net.now)) c.args.prices.now c.loop.prices c.loop.marks c.loop.counter c.loop.invariant c.requires.untidy.moderate (omega (arith, c.requires.untidy.few))
+    finish g.N.Cost.CostKind.kind g.met.N.Cost.CostKind.lawful (shown (g.N.Network.meaning c.args.net.now)) c.args.prices.now c.loop.prices c.loop.marks c.loop.counter c.loop.invariant (omega (arith, c.requires.untidy.few))
