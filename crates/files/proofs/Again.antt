@@ -15,7 +15,7 @@ use Rattle.tokens.specs.declared.spots.Spot.{Spot}
 use Rattle.tokens.proofs.Fronts.{front_some}
 use Rattle.lines.specs.Readings.{Reading, Outcome, then}
 use Rattle.lines.specs.Lines.{expects, starts, finishes, count_in, bounds_in}
-use Rattle.lines.proofs.Again.{at, Reads, then_reads, starts_reads, close_reads, space_reads, finishes_reads, within_reads, count_reads, bounds_reads}
+use Rattle.lines.proofs.Again.{at, Reads, then_reads, starts_reads, close_reads, space_reads, finishes_reads, value_reads, count_reads, bounds_reads}
 use Rattle.files.specs.Kinds.{Tiers, TierLaws, Sized}
 use Rattle.files.specs.Costs.{tier_in, second_in, numbers_in, cost_in}
 use Rattle.files.specs.Arcs.{ends_in, arc_in}
@@ -25,7 +25,7 @@ use Rattle.files.specs.Stopping.{no_flow}
 use Rattle.files.proofs.Takes.{Small, Among, Fits, Counted, line_more, header_more, one, two, pair_text}
 
 tier_reads : (z : ℤ) (p : Spot) (more : List ℕ) → Small z → prefix_len is_ascii_digit more ≡ 0 → Reads (tier_in (at p (signed_decimal z ++ more))) z more
-tier_reads z p more h e = within_reads (negsuc 999999) (pos 1000000) z p more (omega arith) e (small z h)
+tier_reads z p more h e = value_reads (negsuc 999999) (pos 1000000) z p more (omega arith) e (small z h)
   where
     small : (z : ℤ) → Small z → (int_le (negsuc 999999) z && int_le z (pos 1000000)) ≡ true
     small (pos n) h = grind (arith, nat_tests)

@@ -5,7 +5,7 @@ use Rattle.makes.specs.declared.table.Row.{Row}
 use Rattle.tokens.specs.declared.spots.LineFault.{LineFault}
 use Rattle.lines.specs.declared.Numeral.{Numeral}
 use Rattle.lines.specs.Readings.{Reading, Outcome, start_of, ended, then}
-use Rattle.lines.specs.Lines.{expects, starts, number_in, ranged, within_in, count_in}
+use Rattle.lines.specs.Lines.{expects, starts, number_in, ranged, within_in, value_in, count_in}
 use Rattle.files.specs.declared.faults.FileFault.{FileFault}
 use Rattle.files.specs.declared.faults.FileFault.TheVariants.{Long}
 use Rattle.files.specs.declared.faults.ReadStop.{ReadStop}
@@ -28,25 +28,28 @@ then_both {A} {B} (Ok m) (Ok n) f h a b p q =
 then_both (Ok m) (Err e) f h a b p q = absurd cc
 then_both (Err e) u f h a b p q = absurd cc
 
-ranged_is : (least most : ℤ) (n : Numeral) (s : Reading) (a : ℤ × Reading) → ended (ranged least most n) s ≡ Ok a → a ≡ (n.value, s)
+ranged_is : (least most : ℤ) (n : Numeral) (s : Reading) (a : Numeral × Reading) → ended (ranged least most n) s ≡ Ok a → a ≡ (n, s)
 ranged_is least most n s a p = go (ranged least most n) refl p
   where
-    value_is : (b : Bool) (e : LineFault) (v : ℤ) → cond b (Ok n.value) (Err e) ≡ Ok v → v ≡ n.value
-    value_is true e v q = cc
-    value_is false e v q = absurd cc
+    number_is : (b : Bool) (e : LineFault) (v : Numeral) → cond b (Ok n) (Err e) ≡ Ok v → v ≡ n
+    number_is true e v q = cc
+    number_is false e v q = absurd cc
 
-    go : (o : Result ℤ LineFault) → ranged least most n ≡ o → ended o s ≡ Ok a → a ≡ (n.value, s)
+    go : (o : Result Numeral LineFault) → ranged least most n ≡ o → ended o s ≡ Ok a → a ≡ (n, s)
     go (Ok v) q p =
-        let i : v ≡ n.value = value_is _ _ v q in
+        let i : v ≡ n = number_is _ _ v q in
         let j : (v, s) ≡ a = cc in
         sym j ∙ ap (λ z. (z, s)) i
     go (Err e) q p = absurd cc
 
-within_same : (l m k n : ℤ) (r : Reading) (a b : ℤ × Reading) → within_in l m r ≡ Ok a → within_in k n r ≡ Ok b → a ≡ b
+within_same : (l m k n : ℤ) (r : Reading) (a b : Numeral × Reading) → within_in l m r ≡ Ok a → within_in k n r ≡ Ok b → a ≡ b
 within_same l m k n r a b = then_same (number_in r) _ _ (λ x s a b p q. ranged_is l m x s a p ∙ sym (ranged_is k n x s b q)) a b
 
+value_same : (l m k n : ℤ) (r : Reading) (a b : ℤ × Reading) → value_in l m r ≡ Ok a → value_in k n r ≡ Ok b → a ≡ b
+value_same l m k n r a b = then_both (within_in l m r) (within_in k n r) _ (within_same l m k n r) a b
+
 count_same : (name : List ℕ) (l m k n : ℕ) (r : Reading) (a b : ℕ × Reading) → count_in name l m r ≡ Ok a → count_in name k n r ≡ Ok b → a ≡ b
-count_same name l m k n r a b = then_same (starts name r) _ _ (λ _ s a b. then_both (within_in (pos l) (pos m) s) (within_in (pos k) (pos n) s) _ (within_same (pos l) (pos m) (pos k) (pos n) s) a b) a b
+count_same name l m k n r a b = then_same (starts name r) _ _ (λ _ s a b. then_both (value_in (pos l) (pos m) s) (value_in (pos k) (pos n) s) _ (value_same (pos l) (pos m) (pos k) (pos n) s) a b) a b
 
 header_same : (l m k n : ℕ) (r : Reading) (a b : Counts × Reading) → header_in l m r ≡ Ok a → header_in k n r ≡ Ok b → a ≡ b
 header_same l m k n r a b =

@@ -13,7 +13,7 @@ use Rattle.makes.specs.declared.table.Row.{Row}
 use Rattle.makes.specs.Tables.{row_arc}
 use Rattle.lines.specs.Readings.{Reading, then}
 use Rattle.lines.specs.Lines.{expects, starts, finishes, count_in, bounds_in}
-use Rattle.lines.proofs.Takes.{then_ok, expects_takes, starts_takes, finishes_takes, within_takes, count_takes, bounds_takes}
+use Rattle.lines.proofs.Takes.{then_ok, expects_takes, starts_takes, finishes_takes, value_takes, count_takes, bounds_takes}
 use Rattle.files.specs.Kinds.{Tiers, TierLaws, Sized}
 use Rattle.files.specs.Costs.{tier_in, second_in, numbers_in, cost_in}
 use Rattle.files.specs.Arcs.{ends_in, arc_in}
@@ -26,7 +26,7 @@ abbrev pub Small : ℤ → Type 0
 Small z = unsigned_abs z ≤ 1000000
 
 tier_takes : (r : Reading) (m : ℤ × Reading) → tier_in r ≡ Ok m → (r.rest ≡ signed_decimal m.0 ++ m.1.rest) × Small m.0
-tier_takes r m e = let w = within_takes (negsuc 999999) (pos 1000000) r m e in (w.0, small m.0 w.1)
+tier_takes r m e = let w = value_takes (negsuc 999999) (pos 1000000) r m e in (w.0, small m.0 w.1)
   where
     small : (z : ℤ) → (int_le (negsuc 999999) z && int_le z (pos 1000000)) ≡ true → Small z
     small (pos n) h = grind (arith, nat_tests)

@@ -2,11 +2,11 @@
 use Rattle.std.specs.Prelude.{ℕ, cond, ℤ, pos, negsuc, Ok, codes, nat_lt}
 use Rattle.files.specs.Kinds.{Tiers}
 use Rattle.lines.specs.Readings.{Reading, Outcome, then}
-use Rattle.lines.specs.Lines.{expects, starts, within_in}
+use Rattle.lines.specs.Lines.{expects, starts, value_in}
 
 -- a number of a cost has a size of at most 1,000,000
 abbrev pub tier_in : Reading → Outcome ℤ
-tier_in r = within_in (negsuc 999999) (pos 1000000) r
+tier_in r = value_in (negsuc 999999) (pos 1000000) r
 
 -- the second number of a cost, or 0 where it has one
 abbrev pub second_in : ℕ → Reading → Outcome ℤ

@@ -32,7 +32,16 @@ pub trait FileCost: CostKind {
 
     // The numbers of a cost that are next.
     fn read(cursor: &mut Cursor) -> Result<Self, LineFault>
-        ensures { ended result cursor.new ≡ numbers_in numbers cursor.old };
+        ensures { ended result cursor.new ≡ numbers_in numbers cursor.old }
+    {
+        let first = tier(cursor)?;
+        if Self::tiers() < 2 {
+            return Ok(Self::of_tiers(first, 0));
+        }
+        cursor.expect(b" ")?;
+        let second = tier(cursor)?;
+        Ok(Self::of_tiers(first, second))
+    }
 
     ghost written: { TierLaws numbers };
 
@@ -45,7 +54,7 @@ fn tier(cursor: &mut Cursor) -> Result<i64, LineFault>
     ensures { ended result cursor.new ≡ tier_in cursor.old }
 {
     let most = COST_LIMIT as i32;
-    Ok(i64::from(cursor.within(-most, most)?))
+    Ok(i64::from(cursor.value_within(-most, most)?))
 }
 
 impl FileCost for Plain {
@@ -98,12 +107,5 @@ impl FileCost for TwoTier {
 
     fn second(self) -> i64 {
         self.second
-    }
-
-    fn read(cursor: &mut Cursor) -> Result<TwoTier, LineFault> {
-        let first = tier(cursor)?;
-        cursor.expect(b" ")?;
-        let second = tier(cursor)?;
-        Ok(Self::of_tiers(first, second))
     }
 }

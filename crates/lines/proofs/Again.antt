@@ -19,7 +19,7 @@ use Rattle.tokens.proofs.Fronts.{front_some, number_front}
 use Rattle.tokens.proofs.Numerals.{written}
 use Rattle.lines.specs.declared.Numeral.{Numeral}
 use Rattle.lines.specs.Readings.{Reading, Outcome, then, past, spot_after, fault_at, ended}
-use Rattle.lines.specs.Lines.{token_or, expected, expects, starts, numeral, number_in, ranged, within_in, count_in, finishes, pair_of, in_line, low_in, high_in, bounds_in}
+use Rattle.lines.specs.Lines.{token_or, expected, expects, starts, numeral, number_in, ranged, within_in, value_in, count_in, finishes, pair_of, in_line, low_in, high_in, bounds_in}
 
 -- a reading at a spot
 abbrev pub at : Spot → List ℕ → Reading
@@ -84,18 +84,24 @@ number_reads z p more h e =
     )
 
 pub within_reads : (least most z : ℤ) (p : Spot) (more : List ℕ) → nat_abs z ≤ 9999999 → prefix_len is_ascii_digit more ≡ 0 → (int_le least z && int_le z most) ≡ true
-    → Reads (within_in least most (at p (signed_decimal z ++ more))) z more
+    → Reads (within_in least most (at p (signed_decimal z ++ more))) (record { value = z; spot = p }) more
 within_reads least most z p more h e i =
-    then_reads (number_in (at p (signed_decimal z ++ more))) (λ m s. ended (ranged least most m) s) (record { value = z; spot = p }) z more more (number_reads z p more h e)
-    (λ q. (q, ap (λ b. ended (cond b (Ok z) (Err (record { spot = p; cause = cause.Range }))) (at q more)) i))
+    let n : Numeral = record { value = z; spot = p } in
+    then_reads (number_in (at p (signed_decimal z ++ more))) (λ m s. ended (ranged least most m) s) n n more more (number_reads z p more h e)
+    (λ q. (q, ap (λ b. ended (cond b (Ok n) (Err (record { spot = p; cause = cause.Range }))) (at q more)) i))
+
+pub value_reads : (least most z : ℤ) (p : Spot) (more : List ℕ) → nat_abs z ≤ 9999999 → prefix_len is_ascii_digit more ≡ 0 → (int_le least z && int_le z most) ≡ true
+    → Reads (value_in least most (at p (signed_decimal z ++ more))) z more
+value_reads least most z p more h e i =
+    then_reads (within_in least most (at p (signed_decimal z ++ more))) (λ m s. Ok (m.value, s)) (record { value = z; spot = p }) z more more (within_reads least most z p more h e i) (λ q. (q, refl))
 
 pub count_reads : (name : List ℕ) → IsName name → (least most k : ℕ) (p : Spot) (more : List ℕ) → least ≤ k → k ≤ most → most ≤ 9999999
     → Reads (count_in name least most (at p (codes "(" ++ (name ++ (codes " " ++ (decimal k ++ (codes ")" ++ more))))))) k more
 count_reads name w least most k p more l m h =
-    then_reads (starts name (at p (codes "(" ++ (name ++ (codes " " ++ (decimal k ++ (codes ")" ++ more))))))) (λ _ s. then (within_in (pos least) (pos most) s) (λ v t. then (expects (codes ")") t) (λ _ u. Ok (unsigned_abs v, u)))) tt k (decimal k ++ (codes ")" ++ more)) more
+    then_reads (starts name (at p (codes "(" ++ (name ++ (codes " " ++ (decimal k ++ (codes ")" ++ more))))))) (λ _ s. then (value_in (pos least) (pos most) s) (λ v t. then (expects (codes ")") t) (λ _ u. Ok (unsigned_abs v, u)))) tt k (decimal k ++ (codes ")" ++ more)) more
     (starts_reads name w p (decimal k ++ (codes ")" ++ more)))
-    (λ q. then_reads (within_in (pos least) (pos most) (at q (decimal k ++ (codes ")" ++ more)))) (λ v t. then (expects (codes ")") t) (λ _ u. Ok (unsigned_abs v, u))) (pos k) k (codes ")" ++ more) more
-    (within_reads (pos least) (pos most) (pos k) q (codes ")" ++ more) (omega arith) refl (ap₂ ◌&&◌ (le-leb least k l) (le-leb k most m)))
+    (λ q. then_reads (value_in (pos least) (pos most) (at q (decimal k ++ (codes ")" ++ more)))) (λ v t. then (expects (codes ")") t) (λ _ u. Ok (unsigned_abs v, u))) (pos k) k (codes ")" ++ more) more
+    (value_reads (pos least) (pos most) (pos k) q (codes ")" ++ more) (omega arith) refl (ap₂ ◌&&◌ (le-leb least k l) (le-leb k most m)))
     (λ u. then_reads (expects (codes ")") (at u (codes ")" ++ more))) (λ _ s. Ok (k, s)) tt k more more (close_reads u more) (λ v. (v, refl))))
 
 small_lo : (lo hi : ℤ) → bounds_fit lo hi ≡ true → nat_abs lo ≤ 9999999

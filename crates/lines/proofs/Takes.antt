@@ -16,7 +16,7 @@ use Rattle.tokens.proofs.Fronts.{front_fronts, front_number}
 use Rattle.tokens.proofs.Numerals.{was_read}
 use Rattle.lines.specs.declared.Numeral.{Numeral}
 use Rattle.lines.specs.Readings.{Reading, Outcome, then, past, fault_at, ended}
-use Rattle.lines.specs.Lines.{token_or, expected, expects, starts, numeral, number_in, ranged, within_in, count_in, finishes, pair_of, in_line, low_in, high_in, bounds_in}
+use Rattle.lines.specs.Lines.{token_or, expected, expects, starts, numeral, number_in, ranged, within_in, value_in, count_in, finishes, pair_of, in_line, low_in, high_in, bounds_in}
 
 -- what goes well goes well in both parts
 pub then_ok : {A B : Type 0} (o : Outcome A) (f : A → Reading → Outcome B) (y : B × Reading) → then o f ≡ Ok y → (m : A × Reading) × ((o ≡ Ok m) × (f m.0 m.1 ≡ Ok y))
@@ -68,25 +68,32 @@ number_takes r m e = go (front_of r.rest) refl e
     go (Ok (word w)) f e = absurd cc
     go (Err c) f e = absurd cc
 
-pub within_takes : (least most : ℤ) (r : Reading) (m : ℤ × Reading) → within_in least most r ≡ Ok m → (r.rest ≡ signed_decimal m.0 ++ m.1.rest) × ((int_le least m.0 && int_le m.0 most) ≡ true)
+pub within_takes : (least most : ℤ) (r : Reading) (m : Numeral × Reading) → within_in least most r ≡ Ok m → (r.rest ≡ signed_decimal m.0.value ++ m.1.rest) × ((int_le least m.0.value && int_le m.0.value most) ≡ true)
 within_takes least most r m e =
     let a = then_ok (number_in r) (λ n s. ended (ranged least most n) s) m e in
     let n = a.0.0 in
     let i = is n a.0.1 (int_le least n.value && int_le n.value most) refl a.1.1 in
-    (number_takes r a.0 a.1.0 ∙ ap (λ z. signed_decimal z.0 ++ z.1.rest) i.0, subst (λ z. (int_le least z.0 && int_le z.0 most) ≡ true) i.0 i.1)
+    (number_takes r a.0 a.1.0 ∙ ap (λ z. signed_decimal z.0.value ++ z.1.rest) i.0, subst (λ z. (int_le least z.0.value && int_le z.0.value most) ≡ true) i.0 i.1)
   where
-    is : (n : Numeral) (s : Reading) (b : Bool) → (int_le least n.value && int_le n.value most) ≡ b → ended (cond b (Ok n.value) (Err (record { spot = n.spot; cause = cause.Range }))) s ≡ Ok m → ((n.value, s) ≡ m) × ((int_le least n.value && int_le n.value most) ≡ true)
+    is : (n : Numeral) (s : Reading) (b : Bool) → (int_le least n.value && int_le n.value most) ≡ b → ended (cond b (Ok n) (Err (record { spot = n.spot; cause = cause.Range }))) s ≡ Ok m → ((n, s) ≡ m) × ((int_le least n.value && int_le n.value most) ≡ true)
     is n s true q e = (cc, q)
     is n s false q e = absurd cc
+
+pub value_takes : (least most : ℤ) (r : Reading) (m : ℤ × Reading) → value_in least most r ≡ Ok m → (r.rest ≡ signed_decimal m.0 ++ m.1.rest) × ((int_le least m.0 && int_le m.0 most) ≡ true)
+value_takes least most r m e =
+    let a = then_ok (within_in least most r) (λ n s. Ok (n.value, s)) m e in
+    let w = within_takes least most r a.0 a.1.0 in
+    let i : (a.0.0.value, a.0.1) ≡ m = cc in
+    (w.0 ∙ ap (λ z. signed_decimal z.0 ++ z.1.rest) i, subst (λ z. (int_le least z.0 && int_le z.0 most) ≡ true) i w.1)
 
 pub count_takes : (name : List ℕ) (least most : ℕ) (r : Reading) (m : ℕ × Reading) → count_in name least most r ≡ Ok m
     → (r.rest ≡ codes "(" ++ (name ++ (codes " " ++ (decimal m.0 ++ (codes ")" ++ m.1.rest))))) × ((least ≤ m.0) × (m.0 ≤ most))
 count_takes name least most r m e =
     let f = λ (v : ℤ) (t : Reading). then (expects (codes ")") t) (λ _ u. Ok (unsigned_abs v, u)) in
-    let a = then_ok (starts name r) (λ _ s. then (within_in (pos least) (pos most) s) f) m e in
-    let b = then_ok (within_in (pos least) (pos most) a.0.1) f m a.1.1 in
+    let a = then_ok (starts name r) (λ _ s. then (value_in (pos least) (pos most) s) f) m e in
+    let b = then_ok (value_in (pos least) (pos most) a.0.1) f m a.1.1 in
     let d = then_ok (expects (codes ")") b.0.1) (λ _ u. Ok (unsigned_abs b.0.0, u)) m b.1.1 in
-    let w = within_takes (pos least) (pos most) a.0.1 b.0 b.1.0 in
+    let w = value_takes (pos least) (pos most) a.0.1 b.0 b.1.0 in
     let n = natural b.0.0 w.1 in
     let i : (unsigned_abs b.0.0, d.0.1) ≡ m = cc in
     let k : unsigned_abs b.0.0 ≡ m.0 = ap (λ z. z.0) i in

@@ -48,16 +48,20 @@ numeral r (Err e) = Err (e, r)
 abbrev pub number_in : Reading → Outcome Numeral
 number_in r = numeral r (token_at r)
 
--- what a number says, from the least to the most
-abbrev pub ranged : ℤ → ℤ → Numeral → Result ℤ LineFault
-ranged least most m = cond (int_le least m.value && int_le m.value most) (Ok m.value) (Err (record { spot = m.spot; cause = cause.Range }))
+-- a number from the least to the most
+abbrev pub ranged : ℤ → ℤ → Numeral → Result Numeral LineFault
+ranged least most m = cond (int_le least m.value && int_le m.value most) (Ok m) (Err (record { spot = m.spot; cause = cause.Range }))
 
-abbrev pub within_in : ℤ → ℤ → Reading → Outcome ℤ
+abbrev pub within_in : ℤ → ℤ → Reading → Outcome Numeral
 within_in least most r = then (number_in r) (λ m s. ended (ranged least most m) s)
+
+-- what it says
+abbrev pub value_in : ℤ → ℤ → Reading → Outcome ℤ
+value_in least most r = then (within_in least most r) (λ m s. Ok (m.value, s))
 
 -- a count in brackets, after its name
 abbrev pub count_in : List ℕ → ℕ → ℕ → Reading → Outcome ℕ
-count_in name least most r = then (starts name r) (λ _ s. then (within_in (pos least) (pos most) s) (λ v t.
+count_in name least most r = then (starts name r) (λ _ s. then (value_in (pos least) (pos most) s) (λ v t.
     then (expects (codes ")") t) (λ _ u. Ok (unsigned_abs v, u))))
 
 -- the last bracket and the line feed

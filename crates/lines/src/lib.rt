@@ -4,11 +4,11 @@
 // the fault; where it stops, and what it answers, is its rule (specs), also after a fault.
 #![tactic(auto)]
 
-ghost use Rattle.std.specs.Prelude.{◌≡◌, ℕ, ◌≤◌, length, ◌≤ℤ◌, IfOk};
+ghost use Rattle.std.specs.Prelude.{◌≡◌, ℕ, ◌+◌, ◌^◌, ◌<◌, ◌≤◌, length, ◌≤ℤ◌, IfOk};
 ghost use Rattle.networks.specs.Limits.{most_arcs};
 ghost use Rattle.tokens.specs.Tokens.{Within, shape};
 ghost use Rattle.lines.specs.Readings.{start_of, past, fault_at, ended};
-ghost use Rattle.lines.specs.Lines.{shown_token, token_at, expects, starts, number_in, within_in, count_in, finishes, shown_pair, pair_of, low_in, high_in, bounds_in};
+ghost use Rattle.lines.specs.Lines.{shown_token, token_at, expects, starts, number_in, within_in, value_in, count_in, finishes, shown_pair, pair_of, low_in, high_in, bounds_in};
 
 use networks::Bounds;
 use std::marker::Model;
@@ -49,6 +49,14 @@ impl<'a> Cursor<'a> {
             spot: Spot { line: 1, place: 1 },
             rest: text,
         }
+    }
+
+    // A byte in the midst of a text, which stands at this spot, with the text from it on.
+    pub fn at(spot: Spot, rest: &'a [u8]) -> Cursor<'a>
+        requires { (1 ≤ spot.place) × (spot.line + spot.place + length rest.now < 2 ^ 64) }
+        ensures { result ≡ record { spot = spot; rest = rest.now } }
+    {
+        Cursor { spot, rest }
     }
 
     // The same place of the same text, to read from it once more.
@@ -150,19 +158,28 @@ impl<'a> Cursor<'a> {
         })
     }
 
-    // What the number that is next says, if it is from the least to the most.
-    pub fn within(&mut self, least: i32, most: i32) -> Result<i32, LineFault>
-        ensures within { IfOk result (λ n. (least ≤ℤ n) × (n ≤ℤ most)) }
+    // The number that is next, if it is from the least to the most.
+    pub fn within(&mut self, least: i32, most: i32) -> Result<Numeral, LineFault>
+        ensures within { IfOk result (λ n. (least ≤ℤ n.value) × (n.value ≤ℤ most)) }
         ensures is { ended result self.new ≡ within_in least most self.old }
     {
-        let Numeral { value, spot } = self.number()?;
-        if !(least..=most).contains(&value) {
+        let number = self.number()?;
+        if !(least..=most).contains(&number.value) {
             return Err(LineFault {
-                spot,
+                spot: number.spot,
                 cause: Cause::Range,
             });
         }
-        Ok(value)
+        Ok(number)
+    }
+
+    // What the number that is next says, if it is from the least to the most.
+    pub fn value_within(&mut self, least: i32, most: i32) -> Result<i32, LineFault>
+        ensures within { IfOk result (λ n. (least ≤ℤ n) × (n ≤ℤ most)) }
+        ensures is { ended result self.new ≡ value_in least most self.old }
+    {
+        let number = self.within(least, most)?;
+        Ok(number.value)
     }
 
     // A count in brackets, after its name, if it is from the least to the most.
@@ -172,7 +189,7 @@ impl<'a> Cursor<'a> {
         ensures is { ended result self.new ≡ count_in name.now least most self.old }
     {
         self.start(name)?;
-        let number = self.within(least as i32, most as i32)?;
+        let number = self.value_within(least as i32, most as i32)?;
         self.expect(b")")?;
         Ok(number as usize)
     }
