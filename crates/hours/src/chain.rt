@@ -5,7 +5,7 @@ ghost use Rattle.networks.specs.Answers.{refusal};
 ghost use Rattle.hours.specs.Hours.{chain_stop, chain_net, hours_net, hour_of as the_hour_of, source_of, ends, hour_arc};
 
 use costs::CostKind;
-use makes::{ArcRow, Kept};
+use makes::{ArcRow, Kept, ShapedRow};
 use networks::{Arc, Bounds, Stop};
 
 // The most hours of a chain, and how many arcs each has.
@@ -67,10 +67,8 @@ fn ends(nodes: usize, i: usize) -> (usize, usize)
     }
 }
 
-// The ends of a row are worked out from its number.
-impl<C: CostKind> ArcRow for HourRow<C> {
-    type Cost = C;
-
+// Five rows for each hour.
+impl<C> ShapedRow for HourRow<C> {
     // How many nodes there are: the hours and what lies outside them.
     type Shape = usize;
 
@@ -78,16 +76,21 @@ impl<C: CostKind> ArcRow for HourRow<C> {
 
     ghost nodes_of = { λ n. n };
 
+    fn nodes(nodes: usize, rows: usize) -> Result<usize, Stop> {
+        check_counts(nodes.saturating_sub(1), rows)?;
+        Ok(nodes)
+    }
+}
+
+// The ends of a row are worked out from its number.
+impl<C: CostKind> ArcRow for HourRow<C> {
+    type Cost = C;
+
     ghost arc_of = { λ n. hour_arc (n - 1) };
 
     ghost free = { λ n a r. refl };
 
     ghost loose = { λ n a r. refl };
-
-    fn nodes(nodes: usize, rows: usize) -> Result<usize, Stop> {
-        check_counts(nodes.saturating_sub(1), rows)?;
-        Ok(nodes)
-    }
 
     fn as_arc(self, nodes: usize, i: usize) -> Arc<C> {
         let (from, to) = ends(nodes, i);
@@ -131,11 +134,11 @@ pub fn check_chain<C>(hours: usize, rows: &[HourRow<C>]) -> Result<(), Stop>
 }
 
 // The chain; one of unfit parts shows no node and no arc.
-pub fn new_chain<C: CostKind>(hours: usize, rows: &mut [HourRow<C>]) -> HourChain<'_, C>
+pub fn new_chain<C>(hours: usize, rows: &mut [HourRow<C>]) -> HourChain<'_, C>
     ensures shows { chain_net result ≡ hours_net hours rows.old }
     ensures keeps { result.rows.now ≡ rows.old }
     ensures same_reference { result.rows.ghost_name ≡ rows.entry.ghost_name }
 {
     let nodes = if hours <= MOST_HOURS { hours + 1 } else { 0 };
-    Kept::over(nodes, rows)
+    Kept::shaped(nodes, rows)
 }

@@ -1,6 +1,6 @@
 // A network that is kept in lent rows, whatever its rows are: the arc table is one, and so is the hour chain.
 
-ghost use Rattle.std.specs.Prelude.{◌≡◌, ℕ, ◌+◌, false, List, [], ◌∷◌, length, Option};
+ghost use Rattle.std.specs.Prelude.{◌≡◌, ℕ, ◌+◌, false, List, [], ◌∷◌, length, Some, None, Option};
 ghost use Rattle.std.specs.Option.{ok_or};
 ghost use Rattle.networks.specs.declared.network.Arc.{Arc};
 ghost use Rattle.networks.specs.declared.stops.Stop.TheVariants.{Absent};
@@ -12,10 +12,8 @@ use crate::place_of;
 use costs::CostKind;
 use networks::{Arc, Bounds, COST_LIMIT, Network, Stop, Tag};
 
-// A row that is an arc by its number and the shape of its network, with nothing held or fixed.
-pub trait ArcRow: Copy {
-    type Cost: CostKind;
-
+// A row that a network of some shape is kept in, whatever it costs.
+pub trait ShapedRow {
     // What a network is told by, beside its rows: its counts.
     type Shape: Copy;
 
@@ -23,11 +21,16 @@ pub trait ArcRow: Copy {
 
     ghost nodes_of: { Self.Shape → ℕ };
 
-    ghost arc_of: { Self.Shape → ℕ → Self → Arc Self.Cost };
-
     // How many nodes a network of this shape has, or why so many rows are not fit for it.
     fn nodes(shape: Self::Shape, rows: usize) -> Result<usize, Stop>
         ensures { said result ≡ answer (stop_of shape rows) (nodes_of shape) };
+}
+
+// A row that is an arc by its number and the shape of its network, with nothing held or fixed.
+pub trait ArcRow: Copy + ShapedRow {
+    type Cost: CostKind;
+
+    ghost arc_of: { Self.Shape → ℕ → Self → Arc Self.Cost };
 
     // The arc that the row is at a place, counted from 0, of a network of this shape.
     fn as_arc(self, shape: Self::Shape, i: usize) -> Arc<Self::Cost>
@@ -66,6 +69,23 @@ impl<S: Drop, R> Drop for Kept<'_, S, R> {
     }
 }
 
+impl<'a, R: ShapedRow> Kept<'a, R::Shape, R> {
+    // These rows, kept for a network of this shape, whatever they cost; there is no count of nodes where they are
+    // not fit for it.
+    pub fn shaped(shape: R::Shape, rows: &'a mut [R]) -> Kept<'a, R::Shape, R>
+        ensures counts { result.nodes ≡ unless (R.stop_of shape (length rows.old)) None (Some (R.nodes_of shape)) }
+        ensures same_shape { result.shape ≡ shape }
+        ensures keeps { result.rows.now ≡ rows.old }
+        ensures same_reference { result.rows.ghost_name ≡ rows.entry.ghost_name }
+    {
+        Kept {
+            nodes: R::nodes(shape, rows.len()).ok(),
+            shape,
+            rows,
+        }
+    }
+}
+
 impl<'a, R: ArcRow> Kept<'a, R::Shape, R> {
     // The network of this shape that is kept in these rows; where they are not fit for it, it shows none of them.
     pub fn over(shape: R::Shape, rows: &'a mut [R]) -> Kept<'a, R::Shape, R>
@@ -75,11 +95,7 @@ impl<'a, R: ArcRow> Kept<'a, R::Shape, R> {
         ensures keeps { result.rows.now ≡ rows.old }
         ensures same_reference { result.rows.ghost_name ≡ rows.entry.ghost_name }
     {
-        Kept {
-            nodes: R::nodes(shape, rows.len()).ok(),
-            shape,
-            rows,
-        }
+        Kept::shaped(shape, rows)
     }
 }
 

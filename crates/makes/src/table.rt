@@ -4,7 +4,7 @@ ghost use Rattle.std.specs.Prelude.{◌≡◌, ℕ, length, refl};
 ghost use Rattle.networks.specs.Answers.{refusal};
 ghost use Rattle.makes.specs.Tables.{table_stop, table_net, rows_net, row_arc};
 
-use crate::kept::{ArcRow, Kept};
+use crate::kept::{ArcRow, Kept, ShapedRow};
 use costs::CostKind;
 use networks::{Arc, Bounds, Stop, check_counts};
 
@@ -39,21 +39,13 @@ pub struct Counts {
     pub arcs: usize,
 }
 
-// A row has its ends in it, whatever its number.
-impl<C: CostKind> ArcRow for Row<C> {
-    type Cost = C;
-
+// As many rows as the shape has arcs.
+impl<C> ShapedRow for Row<C> {
     type Shape = Counts;
 
     ghost stop_of = { λ s rows. table_stop s.nodes s.arcs rows };
 
     ghost nodes_of = { λ s. s.nodes };
-
-    ghost arc_of = { λ s a r. row_arc r };
-
-    ghost free = { λ s a r. refl };
-
-    ghost loose = { λ s a r. refl };
 
     fn nodes(shape: Counts, rows: usize) -> Result<usize, Stop> {
         check_counts(shape.nodes, shape.arcs)?;
@@ -62,6 +54,17 @@ impl<C: CostKind> ArcRow for Row<C> {
         }
         Ok(shape.nodes)
     }
+}
+
+// A row has its ends in it, whatever its number.
+impl<C: CostKind> ArcRow for Row<C> {
+    type Cost = C;
+
+    ghost arc_of = { λ s a r. row_arc r };
+
+    ghost free = { λ s a r. refl };
+
+    ghost loose = { λ s a r. refl };
 
     fn as_arc(self, _shape: Counts, _i: usize) -> Arc<C> {
         Arc::free(self.from, self.to, self.lo, self.hi, self.cost)
@@ -82,7 +85,7 @@ impl<C: CostKind> ArcRow for Row<C> {
 
 pub type ArcTable<'a, C> = Kept<'a, Counts, Row<C>>;
 
-impl<'a, C: CostKind> Kept<'a, Counts, Row<C>> {
+impl<'a, C> Kept<'a, Counts, Row<C>> {
     // Why a table of these counts cannot be made of these rows, if so.
     pub fn check(nodes: usize, arcs: usize, rows: &[Row<C>]) -> Result<(), Stop>
         ensures { refusal result ≡ table_stop nodes arcs (length rows.now) }
@@ -98,6 +101,6 @@ impl<'a, C: CostKind> Kept<'a, Counts, Row<C>> {
         ensures keeps { result.rows.now ≡ rows.old }
         ensures same_reference { result.rows.ghost_name ≡ rows.entry.ghost_name }
     {
-        Kept::over(Counts { nodes, arcs }, rows)
+        Kept::shaped(Counts { nodes, arcs }, rows)
     }
 }
