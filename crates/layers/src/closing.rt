@@ -8,7 +8,7 @@ ghost use Rattle.layers.specs.Closings.{closing_stop, closing_net, return_arc as
 use crate::entry::Entry;
 use arrayvec::ArrayVec;
 use costs::CostKind;
-use networks::{Arc, Bounds, COST_LIMIT, Network, Stop, Tag, check_counts};
+use networks::{Arc, Bounds, COST_LIMIT, MOST_ARCS, MOST_NODES, Network, Stop, Tag};
 use std::cmp::Ordering;
 
 // The most entries of a closing.
@@ -40,10 +40,12 @@ impl<N: Network> Closing<N, N::Cost> {
     pub fn check(below: &N) -> Result<(), Stop>
         ensures { refusal result ≡ closing_stop (N.Network.meaning below.now) }
     {
-        let (nodes, arcs) = (below.nodes(), below.arcs());
-        check_counts(nodes, arcs)?;
-        // Two nodes and an arc come on top.
-        check_counts(nodes + 2, arcs + 1)
+        // Two nodes and an arc come on top. The counts are asked for each arc that a pile shows, so they are
+        // tested once, and not again with what comes on top.
+        if !(1..=MOST_NODES - 2).contains(&below.nodes()) || below.arcs() >= MOST_ARCS {
+            return Err(Stop::Counts);
+        }
+        Ok(())
     }
 
     // Whether the network below can be closed; if not, nothing is shown.

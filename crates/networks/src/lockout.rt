@@ -1,6 +1,6 @@
 // Lock-out: a network with up to 16 of its arcs taken out.
 
-ghost use Rattle.std.specs.Prelude.{◌≡◌, ℕ, suc, length, replicate, ◌==◌};
+ghost use Rattle.std.specs.Prelude.{◌≡◌, ℕ, suc, ◌≤◌, length, replicate, ◌==◌};
 ghost use Rattle.networks.specs.Nets.{line_with, arc_line as arc_line_of, out_at, shut};
 ghost use Rattle.networks.specs.Answers.{refusal};
 ghost use Rattle.networks.specs.Locks.{locked_stop, locked_net, lockout_net, lock_over};
@@ -76,11 +76,12 @@ impl<N: Network> Lockout<N> {
         layer != 0 && layer - 1 == self.below.lockouts()
     }
 
-    // Whether an arc is out here.
-    fn is_out(&self, a: usize) -> bool
+    // Whether a line holds an arc of the network below: then it is out here.
+    fn holds(&self, a: usize) -> bool
+        requires { (1 ≤ a) × (a ≤ length (N.Network.meaning self.now.below).arcs) }
         ensures { result ≡ out_at (lock_over (N.Network.meaning self.now.below).arcs self.now.lines) a }
     {
-        a <= self.below.arcs() && arc_line(&self.lines, a).is_some()
+        line_of(&self.lines, a).is_some()
     }
 }
 
@@ -117,7 +118,7 @@ impl<N: Network> Network for Lockout<N> {
             return None;
         }
         let x = self.below.arc(a)?;
-        Some(if self.is_out(a) { x.shut_off() } else { x })
+        Some(if self.holds(a) { x.shut_off() } else { x })
     }
 
     fn rebound(&mut self, a: usize, b: Bounds) -> Result<(), Stop> {
@@ -125,7 +126,7 @@ impl<N: Network> Network for Lockout<N> {
             return Err(Stop::Absent(a));
         }
         self.below.arc(a).ok_or(Stop::Absent(a))?;
-        if self.is_out(a) {
+        if self.holds(a) {
             return Err(Stop::Held(a));
         }
         self.below.rebound(a, b)
@@ -146,7 +147,7 @@ impl<N: Network> Network for Lockout<N> {
             return self.below.take_out(layer, a);
         }
         self.below.arc(a).ok_or(Stop::Absent(a))?;
-        if self.is_out(a) {
+        if self.holds(a) {
             return Err(Stop::Held(a));
         }
         let free = line_of(&self.lines, 0).ok_or(Stop::Full)?;
