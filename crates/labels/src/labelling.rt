@@ -101,6 +101,7 @@ fn outward<C: CostKind>(arc: Arc<C>, node: usize, labels: &Labels) -> Option<boo
 }
 
 // Labels the far end of the arc at i, from the node at a place, where the arc may move there and the end is not labelled.
+#[inline(always)]
 fn extend<N: Network>(aim: &Aim<N>, i: usize, arc: Arc<N::Cost>, at: usize, labels: &mut Labels)
     requires good { Good N.Cost.CostKind.kind (shown (N.meaning aim.now.view.net.now)) aim.now.view.flow.now aim.now.view.prices.now aim.now.chosen.arc labels.old }
     requires arc { IsAt (shown (N.meaning aim.now.view.net.now)) i arc }
@@ -139,8 +140,8 @@ fn spread<N: Network>(aim: &Aim<N>, at: usize, labels: &mut Labels) -> bool
     labels.place(aim.chosen.node).is_some()
 }
 
-// Labels what can be reached from the nodes labelled from a place on, but not over the chosen arc, until the node that its step sets out from is labelled.
-pub fn label<N: Network>(aim: &Aim<N>, start: usize, labels: &mut Labels) -> bool
+// Labels what can be reached from the nodes labelled from a place on, but not over the chosen arc, until the sought node is labelled.
+fn label_from<N: Network>(aim: &Aim<N>, start: usize, labels: &mut Labels) -> bool
     requires good { Good N.Cost.CostKind.kind (shown (N.meaning aim.now.view.net.now)) aim.now.view.flow.now aim.now.view.prices.now aim.now.chosen.arc labels.old }
     ensures good { Good N.Cost.CostKind.kind (shown (N.meaning aim.now.view.net.now)) aim.now.view.flow.now aim.now.view.prices.now aim.now.chosen.arc labels.new }
     ensures grown { Grown labels.old labels.new }
@@ -156,4 +157,31 @@ pub fn label<N: Network>(aim: &Aim<N>, start: usize, labels: &mut Labels) -> boo
         at += 1;
     }
     labels.place(aim.chosen.node).is_some()
+}
+
+// Labels what the first arc leads to from the node at a place, if both are there. It stands apart, so that the
+// loop over all arcs keeps `extend` in it.
+#[inline(never)]
+fn follow_first<N: Network>(aim: &Aim<N>, at: usize, labels: &mut Labels)
+    requires { Good N.Cost.CostKind.kind (shown (N.meaning aim.now.view.net.now)) aim.now.view.flow.now aim.now.view.prices.now aim.now.chosen.arc labels.old }
+    ensures good { Good N.Cost.CostKind.kind (shown (N.meaning aim.now.view.net.now)) aim.now.view.flow.now aim.now.view.prices.now aim.now.chosen.arc labels.new }
+    ensures grown { Grown labels.old labels.new }
+{
+    if at >= labels.entries.len() || aim.view.flow.is_empty() {
+        return;
+    }
+    extend(aim, 0, aim.view.arc(0), at, labels);
+}
+
+// Labels what can be reached from the nodes labelled from a place on, but not over the chosen arc, until the node that its step sets out from is labelled.
+pub fn label<N: Network>(aim: &Aim<N>, start: usize, labels: &mut Labels) -> bool
+    requires good { Good N.Cost.CostKind.kind (shown (N.meaning aim.now.view.net.now)) aim.now.view.flow.now aim.now.view.prices.now aim.now.chosen.arc labels.old }
+    ensures good { Good N.Cost.CostKind.kind (shown (N.meaning aim.now.view.net.now)) aim.now.view.flow.now aim.now.view.prices.now aim.now.chosen.arc labels.new }
+    ensures grown { Grown labels.old labels.new }
+    ensures found { result ≡ nat_lt 0 (place_of labels.new aim.now.chosen.node) }
+    ensures all { result ≡ false → (k : ℕ) → start ≤ k → k < count labels.new → AllFollowed N.Cost.CostKind.kind (shown (N.meaning aim.now.view.net.now)) aim.now.view.flow.now aim.now.view.prices.now aim.now.chosen.arc labels.new k }
+{
+    // One arc is followed before the sought node is looked for, which may be labelled already.
+    follow_first(aim, start, labels);
+    label_from(aim, start, labels)
 }

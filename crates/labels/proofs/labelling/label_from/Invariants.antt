@@ -1,7 +1,7 @@
 use Rattle.std.proofs.Common.{ℕ, ◌-◌, ◌<◌, ◌≤◌}
 use Rattle.networks.specs.Nets.{shown}
 use Rattle.labels.specs.Good.{Good, Grown, AllFollowed}
-use Rattle.labels.proofs.labelling.label.Given as goal
+use Rattle.labels.proofs.labelling.label_from.Given as goal
 
 abbrev pub invariant-loop-at : goal.invariant-loop-at
 invariant-loop-at g l =
