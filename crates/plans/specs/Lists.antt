@@ -2,16 +2,18 @@
 use Rattle.std.specs.Prelude.{◌≡◌, ℕ, ◌+◌, ◌≤◌, min, true, false, cond, ◌⊎◌, List, [], ◌∷◌, length, take, drop, ℤ, Some, None, Ok, Err, Option, Result}
 use Rattle.costs.specs.Kinds.{Kind}
 use Rattle.networks.specs.declared.stops.Stop.{Stop}
+use Rattle.networks.specs.Answers.{Told}
 use Rattle.networks.specs.Stops.{told}
 use Rattle.networks.specs.Nets.{Lock, Net, IsAt, take_out_stop, hand_back_stop}
 use Rattle.networks.specs.Rings.{Places, free_of_tags, has_room, keeps, with_tag, without_tag}
+use Rattle.search.specs.declared.settling.Answer.{Answer}
 use Rattle.runs.specs.declared.calls.Call.{Call}
 use Rattle.runs.specs.declared.calls.Outcome.{Outcome}
 use Rattle.runs.specs.States.{State, opening_stop, opened, NoneOut}
-use Rattle.runs.specs.Events.{Asked, settle, rebound, recost, take_out, hand_back, take_up, is_granted, Event, event, asked, came, events}
+use Rattle.runs.specs.Events.{Asked, settle, rebound, recost, take_out, hand_back, take_up, refused, is_granted, Event, event, asked, came, events}
 use Rattle.runs.specs.Steps.{Steps}
 use Rattle.runs.specs.Runs.{Run}
-use Rattle.plans.specs.Keeping.{Keeps}
+use Rattle.plans.specs.Keeping.{settle_came, Keeps}
 
 -- the call would be granted, and cannot be made with these tags: a take-out has no place for its tag, or a hand-back no tag
 abbrev pub ShortOfTags : {C : Type 0} → Net C → Places → Asked C → Type 0
@@ -56,6 +58,12 @@ abbrev pub Runs : {C : Type 0} → Kind C → State C → Places → List ℤ �
 Runs K found places offers calls outs (Err s) left after outcomes = (opening_stop K found ≡ Some (told s)) × (left ≡ found) × (after ≡ places) × (outcomes ≡ outs)
 Runs K found places offers calls outs (Ok made) left after outcomes =
     (opening_stop K found ≡ None) × MakesAll K (opened found) places offers calls outs made left after outcomes × Run K (opened found) (events offers (take made calls) (take made outcomes)) left
+
+-- a plan opened and settled at once: refused as open is, else the law of that one event
+pub record SettlesNew {C : Type 0} (K : Kind C) (found : State C) (budget : ℕ) (r : Result (Answer C) Stop) (left : State C) : Type 0 where
+  pub stopped : (s : Told) → opening_stop K found ≡ Some s → (settle_came r ≡ refused s) × (left ≡ found)
+  pub steps : opening_stop K found ≡ None → Steps K (opened found) (event (settle budget) (settle_came r) ∷ []) left
+  pub law : opening_stop K found ≡ None → Run K (opened found) (event (settle budget) (settle_came r) ∷ []) left
 
 -- how many lines the lock-outs have
 abbrev pub lines_of : List Lock → ℕ
